@@ -3,6 +3,7 @@ package history
 import (
 	"encoding/json"
 	"fmt"
+	"strconv"
 	"strings"
 	"time"
 
@@ -35,7 +36,12 @@ type Entry struct {
 	// IsCut says that something is missing between this and what the volume was like later: it is told, and is no part of a schedule.
 	IsCut bool                    `json:"cut,omitempty"`
 	Rows  map[string]*records.Row `json:"rows,omitempty"` // of a session or a loss: as the volumes are then that it changed; null of names that are free
+
+	at where // of a use or a stop that came since this process began, and isn't packed
 }
+
+// where is what a command says beside the name.
+type where struct{ Node, Target string }
 
 // What entries are of, beside the commands.
 const (
@@ -57,7 +63,7 @@ type Call struct {
 
 // String is as a log has it.
 func (call Call) String() string {
-	return fmt.Sprintf("%s %d.%d to %s", call.Kind, call.Number.Session, call.Number.Call, call.Plugin)
+	return call.Kind + " " + strconv.FormatUint(call.Number.Session, 10) + "." + strconv.FormatUint(call.Number.Call, 10) + " to " + call.Plugin
 }
 
 // plugins are names of plugins, each made once.
@@ -89,6 +95,7 @@ func (names plugins) keepIn(entry *Entry, it *host.Happening) {
 	switch it.What {
 	case host.Commanded:
 		entry.What, entry.Event = eventOf(&it.Command)
+		entry.at = where{it.Command.Node, it.Command.Target}
 		entry.Outcome = sent
 		if it.IsMet {
 			entry.Outcome = met
@@ -113,12 +120,12 @@ func (entry *Entry) Text() string {
 	text := ""
 	switch entry.What {
 	case reply:
-		text = fmt.Sprintf("%v: %v", *entry.Call, codes.Code(entry.Status))
+		text = entry.Call.String() + ": " + codes.Code(entry.Status).String()
 		if entry.Detail != "" {
 			text += " " + entry.Detail
 		}
 	case none:
-		return fmt.Sprintf("%v: %s", *entry.Call, entry.Detail)
+		return entry.Call.String() + ": " + entry.Detail
 	case timeout:
 		text = "timeout"
 	case session:
@@ -150,14 +157,16 @@ func (entry *Entry) node() string {
 
 // asked is the command, without the volume's name.
 func (entry *Entry) asked() string {
-	var event map[string]struct{ Node, Target string }
-	if json.Unmarshal(entry.Event, &event) != nil { // of a delete the value is a text
+	at := entry.at
+	if at.Node == "" && (entry.What == commandNames[host.Use] || entry.What == commandNames[host.Stop]) {
+		var event map[string]where
+		_ = json.Unmarshal(entry.Event, &event) // this package wrote it
+		at = event[entry.What]
+	}
+	if at.Node == "" {
 		return entry.What
 	}
-	if it := event[entry.What]; it.Node != "" {
-		return fmt.Sprintf("%s at %s %s", entry.What, it.Node, it.Target)
-	}
-	return entry.What
+	return entry.What + " at " + at.Node + " " + at.Target
 }
 
 // At is the entry's time.
