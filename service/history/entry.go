@@ -94,14 +94,8 @@ func (names plugins) keepIn(entry *Entry, it *host.Happening) {
 	}
 	switch it.What {
 	case host.Commanded:
-		entry.What, entry.Event = eventOf(&it.Command)
+		entry.What, entry.Event, entry.Outcome = commandNames[it.Command.Kind], appendEvent(make([]byte, 0, 160), &it.Command), outcomeOf(it)
 		entry.at = where{it.Command.Node, it.Command.Target}
-		entry.Outcome = sent
-		if it.IsMet {
-			entry.Outcome = met
-		} else if it.Refusal != 0 {
-			entry.Outcome = fmt.Sprintf("refused %d %s", uint32(it.Refusal), it.Refusal.Name())
-		}
 	case host.Replied:
 		entry.What, entry.Call, entry.Status, entry.Volume, entry.Detail = reply, names.callOf(&it.Call), it.Reply.Status, it.Reply.Volume, it.Reply.Detail
 	case host.Unanswered:
@@ -113,6 +107,17 @@ func (names plugins) keepIn(entry *Entry, it *host.Happening) {
 	case host.Lost:
 		entry.What, entry.Nodes, entry.Event = lose, it.Nodes, encode(map[string]string{lose: it.Node})
 	}
+}
+
+// outcomeOf is what a command came to.
+func outcomeOf(it *host.Happening) string {
+	switch {
+	case it.IsMet:
+		return met
+	case it.Refusal != 0:
+		return fmt.Sprintf("refused %d %s", uint32(it.Refusal), it.Refusal.Name())
+	}
+	return sent
 }
 
 // Text is what the entry says, in a line, without its time and name.

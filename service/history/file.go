@@ -67,28 +67,24 @@ func (made *History) read(content []byte) error {
 		made.rows[name] = row
 	}
 	for at, line := range lines[1:] {
-		entry := made.next()
+		entry := &Entry{}
 		if !bytes.HasSuffix(line, []byte("\n")) || json.Unmarshal(line, entry) != nil {
 			if len(line) > 0 {
 				made.log.Warn("the rest of the history can't be read", zap.Int("line", at+2))
 			}
 			break
 		}
-		made.spell(entry)
-		made.add(entry)
+		made.put(entry)
 	}
 	return nil
 }
 
-// write writes an entry's line, unless the file is to be written anew. Of one that stays whole it has none.
-func (it *file) write(line []byte, entry *Entry) {
+// write writes an entry's line, unless the file is to be written anew.
+func (it *file) write(line []byte) {
 	if it.err != nil || it.isStale {
 		return
 	}
 	it.lines++
-	if entry.isWhole() {
-		line = appendLine(nil, entry)
-	}
 	it.buffer.Write(line) // it remembers what fails, until it is flushed
 }
 
@@ -123,7 +119,11 @@ func (made *History) rewrite() error {
 		buffer.Write(lines)
 	}
 	for at := range made.entries {
-		lines = appendLine(lines[:0], &made.entries[at])
+		if it := &made.entries[at]; it.isWhole() {
+			lines = appendLine(lines[:0], it.entry)
+		} else {
+			lines = appendMarked(lines[:0], made.line(at), it.isCut)
+		}
 		buffer.Write(lines)
 	}
 	if err = buffer.Flush(); err == nil {

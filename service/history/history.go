@@ -40,9 +40,8 @@ type History struct {
 	packs   []*pack                 // the oldest entries
 	packed  int                     // how many those are
 	fresh   int                     // how many are packed together
-	entries []Entry                 // the last ones
+	entries []recent                // the last ones
 	lines   []byte                  // theirs
-	ends    []uint32                // of the lines
 	before  uint64                  // how many there were before these
 	rows    map[string]*records.Row // as they are behind the last entry
 	plugins plugins
@@ -116,47 +115,67 @@ func (made *History) keep(batches [][]host.Happening) {
 
 // take takes an event in. The lock is held.
 func (made *History) take(it *host.Happening) {
-	entry := made.next()
-	made.plugins.keepIn(entry, it)
-	if entry.isWhole() {
-		if entry.What == session && made.isMissing(it.After) {
-			entry.Detail += fmt.Sprintf("; what happened before, up to session %d, isn't all here", it.After)
-		}
-		entry.Rows = made.begins(it)
-		entry.Config = made.config
-	} else if !same(made.rows[entry.Name], it.Before) {
-		made.cut(map[string]*records.Row{entry.Name: it.Before})
+	if it.What == host.Began || it.What == host.Lost {
+		made.takeWhole(it)
+		return
+	}
+	if !same(made.rows[it.Name], it.Before) {
+		made.cut(map[string]*records.Row{it.Name: it.Before})
 	}
 	before := len(made.lines)
-	made.spell(entry)
+	made.lines = made.plugins.appendHappening(made.lines, it)
 	if made.file != nil {
-		made.file.write(made.lines[before:], entry)
+		made.file.write(made.lines[before:])
 	}
-	made.add(entry)
+	made.rows[it.Name] = it.Row
+	if it.Row == nil {
+		delete(made.rows, it.Name)
+	}
+	made.add(recent{happened: it})
 }
 
-// next is the place of the next entry, behind the last one, which is spelled there, and which add takes in.
-func (made *History) next() *Entry {
-	count := len(made.entries)
-	made.entries = append(made.entries, Entry{})[:count]
-	return &made.entries[:count+1][count]
+// takeWhole takes in a session, or a loss.
+func (made *History) takeWhole(it *host.Happening) {
+	entry := &Entry{}
+	made.plugins.keepIn(entry, it)
+	if entry.What == session && made.isMissing(it.After) {
+		entry.Detail += fmt.Sprintf("; what happened before, up to session %d, isn't all here", it.After)
+	}
+	entry.Rows = made.begins(it)
+	entry.Config = made.config
+	if made.file != nil {
+		made.file.write(appendLine(nil, entry))
+	}
+	made.put(entry)
+}
+
+// put takes in an entry that is there.
+func (made *History) put(entry *Entry) {
+	it := recent{entry: entry, isCut: entry.IsCut}
+	if !entry.isWhole() {
+		entry.IsCut = false // a mark says so
+		made.lines = appendLine(made.lines, entry)
+		entry.IsCut = it.isCut
+	}
+	made.learn(entry, made.rows)
+	if made.before == 0 && made.count() == 0 && made.base.Config == nil {
+		made.base.Config, made.base.Nodes = entry.Config, entry.Nodes
+	}
+	made.add(it)
 }
 
 // isMissing says whether another service led, or nothing was kept, in the session after which this process's first one begins.
 func (made *History) isMissing(after uint64) bool {
 	if count := len(made.entries); count > 0 {
-		return made.isCut && made.entries[count-1].Session != after
+		return made.isCut && made.entries[count-1].made(made.plugins).Session != after
 	}
 	return made.isCut && after > 0
 }
 
-// add takes the entry in that stands in the next place, and lets the oldest go where there are too many.
-func (made *History) add(entry *Entry) {
-	made.learn(entry, made.rows)
-	if made.before == 0 && made.count() == 0 && made.base.Config == nil {
-		made.base.Config, made.base.Nodes = entry.Config, entry.Nodes
-	}
-	made.entries = made.entries[:len(made.entries)+1]
+// add takes in an entry whose line was appended, and lets the oldest go where there are too many.
+func (made *History) add(it recent) {
+	it.end = uint32(len(made.lines))
+	made.entries = append(made.entries, it)
 	if len(made.entries) >= 2*made.fresh {
 		made.pack()
 	}
@@ -223,12 +242,14 @@ func (made *History) cut(begin map[string]*records.Row) {
 		it.cut(begin)
 	}
 	for at := range made.entries {
-		entry := &made.entries[at]
-		if _, isCut := begin[entry.Name]; isCut {
-			entry.IsCut = true
+		it := &made.entries[at]
+		if _, isCut := begin[it.name()]; isCut {
+			it.isCut = true
 		}
-		for name := range begin {
-			delete(entry.Rows, name)
+		if it.entry != nil {
+			for name := range begin {
+				delete(it.entry.Rows, name)
+			}
 		}
 	}
 	for name, row := range begin {

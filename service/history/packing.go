@@ -3,6 +3,7 @@ package history
 import (
 	"encoding/json"
 
+	"tufayon/service/host"
 	"tufayon/service/records"
 )
 
@@ -79,44 +80,74 @@ func (it *pack) appendTo(to []byte) []byte {
 		switch whole := it.whole[at]; {
 		case whole != nil:
 			to = appendLine(to, whole)
-		case it.marks[at].isCut:
-			line := it.line(at)
-			to = append(append(to, line[:len(line)-len("}\n")]...), ",\"cut\":true}\n"...)
 		default:
-			to = append(to, it.line(at)...)
+			to = appendMarked(to, it.line(at), it.marks[at].isCut)
 		}
 	}
 	return to
 }
 
+// appendMarked appends an entry's line, with a remark where it is left out of schedules.
+func appendMarked(to, line []byte, isCut bool) []byte {
+	if !isCut {
+		return append(to, line...)
+	}
+	return append(append(to, line[:len(line)-len("}\n")]...), ",\"cut\":true}\n"...)
+}
+
 func (entry *Entry) isWhole() bool { return entry.What == session || entry.What == lose }
 
-// spell appends the line of the entry in the next place, unless it stays whole.
-func (made *History) spell(entry *Entry) {
-	if !entry.isWhole() {
-		isCut := entry.IsCut
-		entry.IsCut = false // a mark says so
-		made.lines = appendLine(made.lines, entry)
-		entry.IsCut = isCut
+// A recent is one of the last entries: what happened, of which it is made when it is asked for; or the entry itself, of sessions and losses and of what was
+// read. A packed one has its line alone.
+type recent struct {
+	happened *host.Happening
+	entry    *Entry
+	isCut    bool
+	end      uint32 // of its line, which those that stay whole haven't
+}
+
+func (it *recent) name() string {
+	if it.entry != nil {
+		return it.entry.Name
 	}
-	made.ends = append(made.ends, uint32(len(made.lines)))
+	return it.happened.Name
+}
+
+func (it *recent) isWhole() bool { return it.entry != nil && it.entry.isWhole() }
+
+// made is the entry.
+func (it *recent) made(names plugins) (entry Entry) {
+	if it.entry != nil {
+		entry = *it.entry
+	} else {
+		names.keepIn(&entry, it.happened)
+	}
+	entry.IsCut = it.isCut
+	return entry
+}
+
+// line is a recent entry's.
+func (made *History) line(at int) []byte {
+	if at == 0 {
+		return made.lines[:made.entries[0].end]
+	}
+	return made.lines[made.entries[at-1].end:made.entries[at].end]
 }
 
 // pack packs the oldest of the entries that aren't.
 func (made *History) pack() {
 	count := made.fresh
-	end := made.ends[count-1]
+	end := made.entries[count-1].end
 	it := &pack{lines: append([]byte(nil), made.lines[:end]...), marks: make([]mark, count)}
 	for at := 0; at < count; at++ {
 		entry := &made.entries[at]
-		it.names = append(it.names, entry.Name...)
-		it.marks[at] = mark{line: made.ends[at], name: uint32(len(it.names)), isCut: entry.IsCut}
+		it.names = append(it.names, entry.name()...)
+		it.marks[at] = mark{line: entry.end, name: uint32(len(it.names)), isCut: entry.isCut}
 		if entry.isWhole() {
 			if it.whole == nil {
 				it.whole = map[int]*Entry{}
 			}
-			whole := *entry
-			it.whole[at] = &whole
+			it.whole[at] = entry.entry
 		}
 	}
 	made.packs = append(made.packs, it)
@@ -124,13 +155,11 @@ func (made *History) pack() {
 	made.lines = append(made.lines[:0], made.lines[end:]...)
 	left := copy(made.entries, made.entries[count:])
 	for at := left; at < len(made.entries); at++ {
-		made.entries[at] = Entry{}
+		made.entries[at] = recent{}
 	}
 	made.entries = made.entries[:left]
-	copy(made.ends, made.ends[count:])
-	made.ends = made.ends[:left]
-	for at := range made.ends {
-		made.ends[at] -= end
+	for at := range made.entries {
+		made.entries[at].end -= end
 	}
 }
 
@@ -144,7 +173,7 @@ func (made *History) beginsWith() string {
 	case made.packed > 0:
 		oldest = made.packs[0].whole[made.packs[0].first]
 	case len(made.entries) > 0:
-		oldest = &made.entries[0]
+		oldest = made.entries[0].entry
 	}
 	if oldest == nil || !oldest.isWhole() {
 		return ""
@@ -206,8 +235,8 @@ func (made *History) all(name string) []Entry {
 		}
 	}
 	for at := range made.entries {
-		if entry := &made.entries[at]; name == "" || entry.Name == "" || entry.Name == name {
-			all = append(all, *entry)
+		if it := &made.entries[at]; name == "" || it.name() == "" || it.name() == name {
+			all = append(all, it.made(made.plugins))
 		}
 	}
 	return all
@@ -217,8 +246,8 @@ func (made *History) all(name string) []Entry {
 func (made *History) backwards(name string, most, of int) (last []Entry) {
 	for at := len(made.entries) - 1; at >= 0 && of > 0 && len(last) < most; at-- {
 		of--
-		if entry := &made.entries[at]; name == "" || entry.Name == "" || entry.Name == name {
-			last = append(last, *entry)
+		if it := &made.entries[at]; name == "" || it.name() == "" || it.name() == name {
+			last = append(last, it.made(made.plugins))
 		}
 	}
 	for place := len(made.packs) - 1; place >= 0; place-- {

@@ -1,7 +1,6 @@
 package history
 
 import (
-	"encoding/json"
 	"strconv"
 
 	"tufayon/service/frames"
@@ -102,11 +101,53 @@ func appendCallOf(to []byte, key string, call *Call) []byte {
 	if call == nil {
 		return to
 	}
+	return appendNumbered(to, key, call.Number, call.Kind, call.Plugin)
+}
+
+func appendNumbered(to []byte, key string, number frames.Number, kind, plugin string) []byte {
 	to = append(appendKey(to, key), `{"number":{`...)
-	to = appendNumberOf(to, `"Session":`, call.Number.Session)
-	to = append(appendNumberOf(to, `"Call":`, call.Number.Call), '}')
-	to = appendTextOf(to, `"kind":`, call.Kind)
-	return append(appendTextOf(to, `"plugin":`, call.Plugin), '}')
+	to = appendNumberOf(to, `"Session":`, number.Session)
+	to = append(appendNumberOf(to, `"Call":`, number.Call), '}')
+	to = appendTextOf(to, `"kind":`, kind)
+	return append(appendTextOf(to, `"plugin":`, plugin), '}')
+}
+
+// appendHappening appends the line of something that happened to a volume, as appendLine does that of its entry.
+func (names plugins) appendHappening(to []byte, it *host.Happening) []byte {
+	begin := func(what string) {
+		to = strconv.AppendInt(append(to, `{"time":`...), it.Time.UnixMilli(), 10)
+		to = appendTextOf(appendNumberOf(to, `"session":`, it.Session), `"what":`, what)
+		to = appendIfText(to, `"name":`, it.Name)
+	}
+	called := func(call *frames.Call, key string) {
+		to = appendNumbered(to, key, call.Number, call.Kind().String(), names.of(call))
+	}
+	switch it.What {
+	case host.Commanded:
+		begin(commandNames[it.Command.Kind])
+		to = appendEvent(appendKey(to, `"event":`), &it.Command)
+		to = appendTextOf(to, `"outcome":`, outcomeOf(it))
+	case host.Replied:
+		begin(reply)
+		called(&it.Call, `"call":`)
+		to = appendIfNumber(to, `"status":`, uint64(it.Reply.Status))
+		to = appendIfNumber(to, `"volume":`, it.Reply.Volume)
+		to = appendIfText(to, `"detail":`, it.Reply.Detail)
+	case host.Unanswered:
+		begin(none)
+		called(&it.Call, `"call":`)
+		to = appendIfText(to, `"detail":`, it.Why)
+	default:
+		begin(timeout)
+		to = append(appendTextOf(append(appendKey(to, `"event":`), '{'), `"timeout":`, it.Name), '}')
+	}
+	if it.Sent != nil {
+		called(it.Sent, `"sent":`)
+	}
+	if it.Row != nil {
+		to = appendRow(appendKey(to, `"row":`), it.Row)
+	}
+	return append(to, "}\n"...)
 }
 
 func appendRow(to []byte, row *records.Row) []byte {
@@ -201,10 +242,9 @@ func appendAccess(to []byte, it *frames.Capability) []byte {
 	return append(appendNumberOf(to, `"mode":`, uint64(it.Mode)), '}')
 }
 
-// eventOf is a command as a schedule has it, and its key.
-func eventOf(command *host.Command) (key string, event json.RawMessage) {
-	key = commandNames[command.Kind]
-	to := append(append(append(make([]byte, 0, 160), '{', '"'), key...), '"', ':')
+// appendEvent appends a command as a schedule has it.
+func appendEvent(to []byte, command *host.Command) []byte {
+	to = append(append(append(to, '{', '"'), commandNames[command.Kind]...), '"', ':')
 	switch command.Kind {
 	case host.Create:
 		capabilities := command.Capabilities
@@ -228,7 +268,7 @@ func eventOf(command *host.Command) (key string, event json.RawMessage) {
 	default:
 		to = appendText(to, command.Name)
 	}
-	return key, append(to, '}')
+	return append(to, '}')
 }
 
 var commandNames = [...]string{host.Create: "create", host.Use: "use", host.Stop: "stop", host.Delete: "delete"}
