@@ -118,14 +118,6 @@ func (made *History) rewrite() error {
 		lines = packed.appendTo(lines[:0])
 		buffer.Write(lines)
 	}
-	for at := range made.entries {
-		if it := &made.entries[at]; it.isWhole() {
-			lines = appendLine(lines[:0], it.entry)
-		} else {
-			lines = appendMarked(lines[:0], made.line(at), it.isCut)
-		}
-		buffer.Write(lines)
-	}
 	if err = buffer.Flush(); err == nil {
 		err = os.Rename(it.path+".new", it.path)
 	}
@@ -136,7 +128,7 @@ func (made *History) rewrite() error {
 	if it.to != nil {
 		it.to.Close()
 	}
-	it.to, it.buffer, it.lines, it.isStale = anew, buffer, made.count(), false
+	it.to, it.buffer, it.lines, it.isStale = anew, buffer, made.count, false
 	return nil
 }
 

@@ -37,11 +37,11 @@ type History struct {
 	config  json.RawMessage // of the service now
 	base    base
 	late    map[string]*[]byte      // by the volumes' names: the lines of entries that the base is to have, and hasn't yet
-	packs   []*pack                 // the oldest entries
-	packed  int                     // how many those are
+	packs   []*pack                 // all entries
+	last    *pack                   // the last one of these, which is filled
+	count   int                     // of the entries
 	fresh   int                     // how many are packed together
 	entries []recent                // the last ones
-	lines   []byte                  // theirs
 	before  uint64                  // how many there were before these
 	rows    map[string]*records.Row // as they are behind the last entry
 	plugins plugins
@@ -56,6 +56,8 @@ func Open(path string, most int, log *zap.Logger) (*History, error) {
 		most: most, fresh: int(least(mostFresh, uint64(most/4+1))), late: map[string]*[]byte{}, log: log, come: coming{told: make(chan struct{})}, isCut: true,
 		base: base{Rows: map[string]*records.Row{}}, rows: map[string]*records.Row{}, plugins: plugins{},
 	}
+	made.last = newPack(made.fresh, 0, 0)
+	made.packs = []*pack{made.last}
 	if path != "" {
 		if err := made.open(path); err != nil {
 			return nil, fmt.Errorf("the history: %w", err)
@@ -122,10 +124,11 @@ func (made *History) take(it *host.Happening) {
 	if !same(made.rows[it.Name], it.Before) {
 		made.cut(map[string]*records.Row{it.Name: it.Before})
 	}
-	before := len(made.lines)
-	made.lines = made.plugins.appendHappening(made.lines, it)
+	last := made.last
+	before := len(last.lines)
+	last.lines = made.plugins.appendHappening(last.lines, it)
 	if made.file != nil {
-		made.file.write(made.lines[before:])
+		made.file.write(last.lines[before:])
 	}
 	made.rows[it.Name] = it.Row
 	if it.Row == nil {
@@ -154,11 +157,11 @@ func (made *History) put(entry *Entry) {
 	it := recent{entry: entry, isCut: entry.IsCut}
 	if !entry.isWhole() {
 		entry.IsCut = false // a mark says so
-		made.lines = appendLine(made.lines, entry)
+		made.last.lines = appendLine(made.last.lines, entry)
 		entry.IsCut = it.isCut
 	}
 	made.learn(entry, made.rows)
-	if made.before == 0 && made.count() == 0 && made.base.Config == nil {
+	if made.before == 0 && made.count == 0 && made.base.Config == nil {
 		made.base.Config, made.base.Nodes = entry.Config, entry.Nodes
 	}
 	made.add(it)
@@ -170,18 +173,6 @@ func (made *History) isMissing(after uint64) bool {
 		return made.isCut && made.entries[count-1].made(made.plugins).Session != after
 	}
 	return made.isCut && after > 0
-}
-
-// add takes in an entry whose line was appended, and lets the oldest go where there are too many.
-func (made *History) add(it recent) {
-	it.end = uint32(len(made.lines))
-	made.entries = append(made.entries, it)
-	if len(made.entries) >= 2*made.fresh {
-		made.pack()
-	}
-	for made.count() > made.most {
-		made.drop()
-	}
 }
 
 // learn has rows be as they are behind an entry.
@@ -277,7 +268,7 @@ func (made *History) Count() (kept int, lost uint64) {
 	made.mutex.Lock()
 	defer made.mutex.Unlock()
 	made.keep(made.come.take())
-	return made.count(), made.come.losses()
+	return made.count, made.come.losses()
 }
 
 // Last gives the last entries, at most so many, of a volume or of all, and sessions and losses with both; and behind a count of entries, which is handed
@@ -287,9 +278,9 @@ func (made *History) Last(name string, most int, behind uint64) (last []Entry, c
 	defer made.mutex.Unlock()
 	came, more := made.come.more()
 	made.keep(came)
-	count = made.before + uint64(made.count())
+	count = made.before + uint64(made.count)
 	if count > behind {
-		last = made.backwards(name, most, int(least(count-behind, uint64(made.count()))))
+		last = made.backwards(name, most, int(least(count-behind, uint64(made.count))))
 	}
 	for i, j := 0, len(last)-1; i < j; i, j = i+1, j-1 {
 		last[i], last[j] = last[j], last[i]

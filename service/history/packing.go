@@ -7,7 +7,7 @@ import (
 	"tufayon/service/records"
 )
 
-// mostFresh is how many of the last entries are kept as they are, at least, if there are so many: others are packed.
+// mostFresh is how many of the last entries are kept as they came too, at least, if there are so many; and how many are packed together.
 const mostFresh = 200
 
 // A pack has entries as they are written, in a few large pieces: as structs, so many would be gone through by each collection of garbage.
@@ -97,13 +97,12 @@ func appendMarked(to, line []byte, isCut bool) []byte {
 
 func (entry *Entry) isWhole() bool { return entry.What == session || entry.What == lose }
 
-// A recent is one of the last entries: what happened, of which it is made when it is asked for; or the entry itself, of sessions and losses and of what was
-// read. A packed one has its line alone.
+// A recent is one of the last entries, which are packed too: what happened, of which it is made when it is asked for; or the entry itself, of sessions and
+// losses and of what was read.
 type recent struct {
 	happened *host.Happening
 	entry    *Entry
 	isCut    bool
-	end      uint32 // of its line, which those that stay whole haven't
 }
 
 func (it *recent) name() string {
@@ -111,6 +110,11 @@ func (it *recent) name() string {
 		return it.entry.Name
 	}
 	return it.happened.Name
+}
+
+// concerns says whether it is of a volume, or of none; all are of the empty name.
+func (it *recent) concerns(name string) bool {
+	return name == "" || it.name() == "" || it.name() == name
 }
 
 func (it *recent) isWhole() bool { return it.entry != nil && it.entry.isWhole() }
@@ -126,59 +130,46 @@ func (it *recent) made(names plugins) (entry Entry) {
 	return entry
 }
 
-// line is a recent entry's.
-func (made *History) line(at int) []byte {
-	if at == 0 {
-		return made.lines[:made.entries[0].end]
-	}
-	return made.lines[made.entries[at-1].end:made.entries[at].end]
+// newPack makes one with room for as many entries as are packed together, of which the last one had so many bytes.
+func newPack(count, lines, names int) *pack {
+	return &pack{marks: make([]mark, 0, count), lines: make([]byte, 0, lines+lines/8), names: make([]byte, 0, names+names/8)}
 }
 
-// pack packs the oldest of the entries that aren't.
-func (made *History) pack() {
-	count := made.fresh
-	end := made.entries[count-1].end
-	it := &pack{lines: append([]byte(nil), made.lines[:end]...), marks: make([]mark, count)}
-	for at := 0; at < count; at++ {
-		entry := &made.entries[at]
-		it.names = append(it.names, entry.name()...)
-		it.marks[at] = mark{line: entry.end, name: uint32(len(it.names)), isCut: entry.isCut}
-		if entry.isWhole() {
-			if it.whole == nil {
-				it.whole = map[int]*Entry{}
-			}
-			it.whole[at] = entry.entry
+// add takes in an entry whose line is there, and lets the oldest go where there are too many.
+func (made *History) add(it recent) {
+	last := made.last
+	if it.isWhole() {
+		if last.whole == nil {
+			last.whole = map[int]*Entry{}
 		}
+		last.whole[len(last.marks)] = it.entry
 	}
-	made.packs = append(made.packs, it)
-	made.packed += count
-	made.lines = append(made.lines[:0], made.lines[end:]...)
-	left := copy(made.entries, made.entries[count:])
-	for at := left; at < len(made.entries); at++ {
-		made.entries[at] = recent{}
+	last.names = append(last.names, it.name()...)
+	last.marks = append(last.marks, mark{line: uint32(len(last.lines)), name: uint32(len(last.names)), isCut: it.isCut})
+	made.count++
+	made.entries = append(made.entries, it)
+	if len(made.entries) >= 2*made.fresh {
+		left := copy(made.entries, made.entries[made.fresh:])
+		for at := left; at < len(made.entries); at++ {
+			made.entries[at] = recent{}
+		}
+		made.entries = made.entries[:left]
 	}
-	made.entries = made.entries[:left]
-	for at := range made.entries {
-		made.entries[at].end -= end
+	if len(last.marks) == made.fresh {
+		made.last = newPack(made.fresh, len(last.lines), len(last.names))
+		made.packs = append(made.packs, made.last)
+	}
+	for made.count > made.most {
+		made.drop()
 	}
 }
-
-// count is how many entries there are.
-func (made *History) count() int { return made.packed + len(made.entries) }
 
 // beginsWith says of what the oldest entry is: nothing of one of a volume.
 func (made *History) beginsWith() string {
-	oldest := (*Entry)(nil)
-	switch {
-	case made.packed > 0:
-		oldest = made.packs[0].whole[made.packs[0].first]
-	case len(made.entries) > 0:
-		oldest = made.entries[0].entry
+	if oldest := made.packs[0].whole[made.packs[0].first]; oldest != nil {
+		return oldest.What
 	}
-	if oldest == nil || !oldest.isWhole() {
-		return ""
-	}
-	return oldest.What
+	return ""
 }
 
 // drop lets the oldest entry go, which is packed: the base has what it says. Of a volume that is its line, which is read once somebody asks for the base.
@@ -186,7 +177,7 @@ func (made *History) drop() {
 	it := made.packs[0]
 	at := it.first
 	it.first++
-	made.packed--
+	made.count--
 	switch whole := it.whole[at]; {
 	case whole != nil:
 		for name := range whole.Rows {
@@ -225,17 +216,19 @@ func (made *History) settled() base {
 func (made *History) all(name string) []Entry {
 	var all []Entry
 	if name == "" {
-		all = make([]Entry, 0, made.count())
+		all = make([]Entry, 0, made.count)
 	}
+	left := made.count - len(made.entries)
 	for _, it := range made.packs {
-		for at := it.first; at < len(it.marks); at++ {
+		for at := it.first; at < len(it.marks) && left > 0; at++ {
+			left--
 			if it.concerns(at, name) {
 				all = append(all, it.entry(at))
 			}
 		}
 	}
 	for at := range made.entries {
-		if it := &made.entries[at]; name == "" || it.name() == "" || it.name() == name {
+		if it := &made.entries[at]; it.concerns(name) {
 			all = append(all, it.made(made.plugins))
 		}
 	}
@@ -246,13 +239,18 @@ func (made *History) all(name string) []Entry {
 func (made *History) backwards(name string, most, of int) (last []Entry) {
 	for at := len(made.entries) - 1; at >= 0 && of > 0 && len(last) < most; at-- {
 		of--
-		if it := &made.entries[at]; name == "" || it.name() == "" || it.name() == name {
+		if it := &made.entries[at]; it.concerns(name) {
 			last = append(last, it.made(made.plugins))
 		}
 	}
+	taken := len(made.entries)
 	for place := len(made.packs) - 1; place >= 0; place-- {
 		it := made.packs[place]
 		for at := len(it.marks) - 1; at >= it.first && of > 0 && len(last) < most; at-- {
+			if taken > 0 {
+				taken--
+				continue
+			}
 			of--
 			if it.concerns(at, name) {
 				last = append(last, it.entry(at))
