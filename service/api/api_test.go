@@ -40,6 +40,9 @@ type plugins map[string]carrying.State
 
 func (it plugins) States() map[string]carrying.State { return it }
 
+// Unmounted says of a node that says anything of itself that no volume is mounted there.
+func (it plugins) Unmounted(node string, _ uint64) string { return it[carrying.NodeName(node)].Amiss }
+
 // serve serves a new orchestrator of nodes n1, n2 and so on at a listener.
 func serve(t testing.TB, kept store.Store, carrier host.Carrier, nodes int, listener net.Listener, known credentials.TransportCredentials, roles *api.Roles) *host.Host {
 	t.Helper()
@@ -52,7 +55,10 @@ func serveBy(
 ) *host.Host {
 	t.Helper()
 	options.Times = host.Times{Patience: time.Minute, Retry: time.Millisecond, MostRetry: time.Second}
-	states := plugins{carrying.Controller: {Address: "unix:///c", Connection: "READY"}, "node:n1": {Address: "unix:///n1", Queued: 3, Trouble: "gone"}}
+	states := plugins{
+		carrying.Controller: {Address: "unix:///c", Connection: "READY"}, "node:n1": {Address: "unix:///n1", Queued: 3, Trouble: "gone"},
+		"node:n2": {Address: "unix:///n2", Connection: "READY", Amiss: "nothing is mounted"},
+	}
 	for at := 1; at <= nodes; at++ {
 		options.Nodes = append(options.Nodes, fmt.Sprint("n", at))
 	}
@@ -161,6 +167,39 @@ func TestCommands(t *testing.T) {
 	}
 	if again, err := client.Restart(ctx, &wire.RestartRequest{}); err != nil || again.Session != 3 {
 		t.Errorf("restarted: %v, %v", again, err)
+	}
+}
+
+// A use that is so as the record has it, but not at the node, whose machine was started again, isn't reached, and the volume says why.
+func TestUnmounted(t *testing.T) {
+	connection, _, _ := serveLocal(t, hosttest.NewStore(), &hosttest.Carrier{}, 2, api.Loses)
+	client := wire.NewOrchestratorClient(connection)
+	shared := &wire.Capability{Mode: 5}
+	if _, err := client.Create(ctx, &wire.CreateRequest{Name: "v", Capabilities: []*wire.Capability{shared}, Wait: wire.Wait_AT_REST}); err != nil {
+		t.Fatal(err)
+	}
+	for _, node := range []string{"n1", "n2"} {
+		for _, isMet := range []bool{false, true} {
+			volume, err := client.Use(ctx, &wire.UseRequest{Name: "v", Node: node, Target: "/a", Capability: shared, Wait: wire.Wait_AT_REST})
+			if err != nil || volume.Met != isMet || volume.Reached != (node == "n1") || volume.Exists != wire.Known_YES {
+				t.Errorf("at %s, so already %v: %v, %v", node, isMet, volume, err)
+			}
+		}
+	}
+	said := map[string]string{}
+	list, err := client.List(ctx, &wire.ListRequest{})
+	if err != nil || len(list.Volumes) != 1 {
+		t.Fatal(list, err)
+	}
+	for _, at := range list.Volumes[0].At {
+		said[at.Node] = at.Unmounted
+	}
+	if len(said) != 2 || said["n1"] != "" || said["n2"] != "nothing is mounted" {
+		t.Errorf("not mounted: %v", said)
+	}
+	volume, err := client.Stop(ctx, &wire.StopRequest{Name: "v", Node: "n2", Target: "/a", Wait: wire.Wait_AT_REST})
+	if err != nil || !volume.Reached {
+		t.Errorf("stopped: %v, %v", volume, err)
 	}
 }
 

@@ -93,7 +93,8 @@ func (judged *judge) capabilities(values []*wire.Capability) []frames.Capability
 	return capabilities
 }
 
-func volumeOf(volume host.Volume) *wire.Volume {
+// volumeOf is a volume as the record has it, and what nodes say that isn't so.
+func (server *Server) volumeOf(volume host.Volume) *wire.Volume {
 	message := &wire.Volume{
 		Name: volume.Name, Id: volume.ID, Exists: wire.Known(volume.Exists), Goal: volume.Goal.String(), GoalNode: volume.Node, GoalTarget: volume.Target,
 		Tries: uint32(volume.Tries), HeldUpBy: volume.HeldUpBy, Trouble: volume.Trouble, Required: volume.Required, Limit: volume.Limit,
@@ -107,6 +108,7 @@ func volumeOf(volume host.Volume) *wire.Volume {
 	for _, it := range volume.At {
 		at := &wire.At{
 			Node: it.Node, Attached: wire.Known(it.Attached), Staged: wire.Known(it.Staged), Capability: capabilityOf(it.Capability), Readonly: it.Readonly,
+			Unmounted: server.plugins.Unmounted(it.Node, volume.ID),
 		}
 		for _, target := range it.Targets {
 			at.Targets = append(at.Targets, &wire.Target{Path: target.Path, Published: wire.Known(target.Published)})
@@ -116,11 +118,21 @@ func volumeOf(volume host.Volume) *wire.Volume {
 	return message
 }
 
+// unmountedAt is why a volume isn't mounted at a node where the record has it.
+func unmountedAt(volume *wire.Volume, node string) string {
+	for _, at := range volume.At {
+		if at.Node == node {
+			return at.Unmounted
+		}
+	}
+	return ""
+}
+
 func capabilityOf(it frames.Capability) *wire.Capability {
 	return &wire.Capability{Mode: uint32(it.Mode), Mount: it.Mount, FsType: it.FsType}
 }
 
-func eventOf(event host.Event) *wire.Event {
+func (server *Server) eventOf(event host.Event) *wire.Event {
 	message := &wire.Event{Session: event.Session, Count: event.Count}
 	switch {
 	case event.Forgotten != "":
@@ -128,7 +140,7 @@ func eventOf(event host.Event) *wire.Event {
 	case event.Lost != "":
 		message.Of = &wire.Event_Lost{Lost: event.Lost}
 	default:
-		message.Of = &wire.Event_Volume{Volume: volumeOf(event.Volume)}
+		message.Of = &wire.Event_Volume{Volume: server.volumeOf(event.Volume)}
 	}
 	return message
 }

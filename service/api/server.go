@@ -32,6 +32,8 @@ const mostListed = 1000
 // Plugins says how it stands with the plugins: carrying.Carrier is one.
 type Plugins interface {
 	States() map[string]carrying.State
+	// Unmounted says why a volume isn't mounted at a node where the record has it: nothing where it is, or that isn't known.
+	Unmounted(node string, volume uint64) string
 }
 
 // Server serves an orchestrator, once this process leads.
@@ -117,8 +119,8 @@ func (server *Server) do(ctx context.Context, command host.Command) (*wire.Volum
 	if err != nil {
 		return nil, statusOf(err)
 	}
-	volume := volumeOf(answer.Volume)
-	volume.Met, volume.Reached = answer.Met, answer.Reached
+	volume := server.volumeOf(answer.Volume)
+	volume.Met, volume.Reached = answer.Met, answer.Reached && (command.Kind != host.Use || unmountedAt(volume, command.Node) == "")
 	return volume, nil
 }
 
@@ -221,7 +223,7 @@ func (server *Server) Get(ctx context.Context, request *wire.GetRequest) (*wire.
 		if err != nil {
 			return nil, statusOf(err)
 		}
-		return volumeOf(answer.Volume), current(ctx, leads)
+		return server.volumeOf(answer.Volume), current(ctx, leads)
 	}
 	volume, isThere := leads.Get(request.Name)
 	if err := current(ctx, leads); err != nil {
@@ -230,7 +232,7 @@ func (server *Server) Get(ctx context.Context, request *wire.GetRequest) (*wire.
 	if !isThere {
 		return nil, status.Error(codes.NotFound, "NoSuchVolume")
 	}
-	return volumeOf(volume), nil
+	return server.volumeOf(volume), nil
 }
 
 // List gives a page of volumes.
@@ -252,7 +254,7 @@ func (server *Server) List(ctx context.Context, request *wire.ListRequest) (*wir
 	})
 	response := &wire.ListResponse{}
 	for _, volume := range volumes {
-		response.Volumes = append(response.Volumes, volumeOf(volume))
+		response.Volumes = append(response.Volumes, server.volumeOf(volume))
 	}
 	if more {
 		response.Next = volumes[len(volumes)-1].Name
@@ -279,7 +281,7 @@ func (server *Server) Watch(request *wire.WatchRequest, stream wire.Orchestrator
 	watching.Current = nil
 	for {
 		for _, event := range events {
-			if err := stream.Send(eventOf(event)); err != nil {
+			if err := stream.Send(server.eventOf(event)); err != nil {
 				return err
 			}
 		}

@@ -1,14 +1,19 @@
 package api_test
 
 import (
+	"bufio"
+	"encoding/json"
 	"fmt"
 	"io"
 	"net"
 	"net/http"
 	"os"
+	"os/exec"
 	"path/filepath"
+	"runtime"
 	"sort"
 	"sync"
+	"sync/atomic"
 	"syscall"
 	"testing"
 	"time"
@@ -29,66 +34,155 @@ import (
 	"tufayon/service/web"
 )
 
-// BenchmarkWatched has the same done at two services in turn, of which one is watched: its metrics are counted and scraped each second, its history and
-// its log go to files, and a page follows. It tells how much longer a use and a stop take there: `ratio`, of the sums, `median-ratio`, of the medians, and
-// `turn-ratio`, the median of the ratios of two turns one after another, which counts on a machine that has much else to do; and likewise, in
-// `processor-ratio`, what the whole process takes of the processors, callers, plugins and who watches included.
+// BenchmarkWatched has callers use and stop volumes at two services in turn, of which one is watched: its metrics are counted and scraped each second, its
+// history and its log go to files, and a page follows. Each is a process of its own, with its callers and its plugins in it; who scrapes and follows is
+// another one. A turn is a second of work, and a rest in which what was put off is done; before it, garbage is collected. It tells how much longer a use and
+// a stop take there: `ratio` is the median, over pairs of turns one after the other, of the seconds by the clock, and `processor-ratio` of the processors'
+// time of the process, what it did in the rest included; `worst-ratio` and `worst-processor-ratio` have three quarters of the pairs below them. There are as
+// many pairs as -test.benchtime Nx says, and at least twelve: a pair takes 2.6 seconds.
 func BenchmarkWatched(b *testing.B) {
 	for _, callers := range []int{1, 16, 64} {
 		b.Run(fmt.Sprint("callers=", callers), func(b *testing.B) { benchmarkWatched(b, callers) })
 	}
 }
 
-// chunk is how many commands are done at one of the two before it is the other's turn.
-const chunk = 64
+const (
+	turnsKey  = "TUFAYON_BENCH_TURNS" // in the environment of a process that serves turns: how many callers it has, and whether it is watched
+	fewest    = 12                    // pairs of turns
+	turnLasts = time.Second
+	turnRests = 300 * time.Millisecond
+)
+
+// A turn is what came of one.
+type turn struct {
+	Count          int     // of uses and stops, a pair of which is one
+	Seconds, Spent float64 // by the clock, and of the processors
+}
 
 func benchmarkWatched(b *testing.B, callers int) {
-	services := []wire.OrchestratorClient{newBenched(b, false), newBenched(b, true)}
-	for _, client := range services {
-		for caller := 0; caller < callers; caller++ {
-			request := &wire.CreateRequest{Name: fmt.Sprint("v", caller), Capabilities: []*wire.Capability{block}, Wait: wire.Wait_AT_REST}
-			if _, err := client.Create(ctx, request); err != nil {
-				b.Fatal(err)
+	services := [2]*turning{startTurning(b, callers, false), startTurning(b, callers, true)}
+	services[1].follow(b)
+	var ratios, spent []float64
+	var unwatched []turn
+	for pair := 0; pair < b.N || pair < fewest; pair++ {
+		var turns [2]turn
+		for _, which := range [][]int{{0, 1}, {1, 0}}[pair%2] {
+			if which == 1 {
+				services[1].scrape(b)
 			}
+			turns[which] = services[which].turn(b)
 		}
-	}
-	var took [2][]time.Duration
-	var lasted, spent [2][]float64 // of each turn, in seconds
-	b.ResetTimer()
-	for done := 0; done < b.N; done += chunk {
-		for _, which := range [][]int{{0, 1}, {1, 0}}[done/chunk%2] {
-			began, before := time.Now(), processors()
-			took[which] = append(took[which], work(b, services[which], callers)...)
-			lasted[which] = append(lasted[which], time.Since(began).Seconds())
-			spent[which] = append(spent[which], (processors() - before).Seconds())
-		}
-	}
-	for _, it := range took {
-		sort.Slice(it, func(i, j int) bool { return it[i] < it[j] })
-	}
-	median := func(which int) float64 { return float64(took[which][len(took[which])/2]) / 1e6 }
-	b.ReportMetric(sum(lasted[1])/sum(lasted[0]), "ratio")
-	b.ReportMetric(median(1)/median(0), "median-ratio")
-	b.ReportMetric(turnRatio(lasted), "turn-ratio")
-	b.ReportMetric(turnRatio(spent), "processor-ratio")
-	b.ReportMetric(median(0), "median-ms")
-}
-
-func sum(all []float64) (total float64) {
-	for _, it := range all {
-		total += it
-	}
-	return total
-}
-
-// turnRatio is the median of the ratios of two turns that followed each other.
-func turnRatio(turns [2][]float64) float64 {
-	ratios := make([]float64, len(turns[0]))
-	for at := range ratios {
-		ratios[at] = turns[1][at] / turns[0][at]
+		ratios = append(ratios, turns[1].Seconds/float64(turns[1].Count)/(turns[0].Seconds/float64(turns[0].Count)))
+		spent = append(spent, turns[1].Spent/float64(turns[1].Count)/(turns[0].Spent/float64(turns[0].Count)))
+		unwatched = append(unwatched, turns[0])
 	}
 	sort.Float64s(ratios)
-	return ratios[len(ratios)/2]
+	sort.Float64s(spent)
+	sort.Slice(unwatched, func(i, j int) bool { return unwatched[i].Count < unwatched[j].Count })
+	middle := unwatched[len(unwatched)/2]
+	b.ReportMetric(ratios[len(ratios)/2], "ratio")
+	b.ReportMetric(ratios[len(ratios)*3/4], "worst-ratio")
+	b.ReportMetric(spent[len(spent)/2], "processor-ratio")
+	b.ReportMetric(spent[len(spent)*3/4], "worst-processor-ratio")
+	b.ReportMetric(1000*middle.Seconds*float64(callers)/float64(middle.Count), "ms")
+	b.ReportMetric(1e6*middle.Spent/float64(middle.Count), "processor-us")
+	b.ReportMetric(0, "ns/op") // which would be that of pairs of turns
+}
+
+// turning is a process that serves turns.
+type turning struct {
+	running *exec.Cmd
+	asks    io.WriteCloser
+	answers *json.Decoder
+	address string // where it is watched
+}
+
+func startTurning(b *testing.B, callers int, isWatched bool) *turning {
+	running := exec.Command(os.Args[0], "-test.run", "^TestTurns$")
+	running.Env = append(os.Environ(), fmt.Sprint(turnsKey, "=", callers, " ", isWatched))
+	running.Stderr = os.Stderr
+	asks, err := running.StdinPipe()
+	if err != nil {
+		b.Fatal(err)
+	}
+	from, to, err := os.Pipe()
+	if err != nil {
+		b.Fatal(err)
+	}
+	running.ExtraFiles = []*os.File{to}
+	if err := running.Start(); err != nil {
+		b.Fatal(err)
+	}
+	to.Close()
+	it := &turning{running: running, asks: asks, answers: json.NewDecoder(from)}
+	b.Cleanup(func() { asks.Close(); running.Wait(); from.Close() })
+	if err := it.answers.Decode(&it.address); err != nil {
+		b.Fatal(err)
+	}
+	return it
+}
+
+// turn has it do a turn.
+func (it *turning) turn(b *testing.B) (done turn) {
+	if _, err := it.asks.Write([]byte("\n")); err != nil {
+		b.Fatal(err)
+	}
+	if err := it.answers.Decode(&done); err != nil {
+		b.Fatal(err)
+	}
+	return done
+}
+
+// scrape scrapes it while it has its turn.
+func (it *turning) scrape(b *testing.B) {
+	go func() {
+		if answer, err := http.Get("http://" + it.address + "/metrics"); err == nil {
+			io.Copy(io.Discard, answer.Body)
+			answer.Body.Close()
+		}
+	}()
+}
+
+// follow follows as a page, until it ends.
+func (it *turning) follow(b *testing.B) {
+	answer, err := http.Get("http://" + it.address + "/events")
+	if err != nil {
+		b.Fatal(err)
+	}
+	go func() {
+		io.Copy(io.Discard, answer.Body)
+		answer.Body.Close()
+	}()
+}
+
+// TestTurns is no test: it serves turns for BenchmarkWatched, one for each line that comes.
+func TestTurns(t *testing.T) {
+	if os.Getenv(turnsKey) == "" {
+		t.Skip("only for BenchmarkWatched")
+	}
+	var callers int
+	var isWatched bool
+	if _, err := fmt.Sscan(os.Getenv(turnsKey), &callers, &isWatched); err != nil {
+		t.Fatal(err)
+	}
+	client, address := newBenched(t, isWatched)
+	for caller := 0; caller < callers; caller++ {
+		request := &wire.CreateRequest{Name: fmt.Sprint("v", caller), Capabilities: []*wire.Capability{block}, Wait: wire.Wait_AT_REST}
+		if _, err := client.Create(ctx, request); err != nil {
+			t.Fatal(err)
+		}
+	}
+	to := json.NewEncoder(os.NewFile(3, "answers"))
+	to.Encode(address)
+	for asked := bufio.NewScanner(os.Stdin); asked.Scan(); {
+		runtime.GC()
+		began, before := time.Now(), processors()
+		done := turn{Count: work(t, client, callers)}
+		done.Seconds = time.Since(began).Seconds()
+		time.Sleep(turnRests)
+		done.Spent = (processors() - before).Seconds()
+		to.Encode(done)
+	}
 }
 
 // processors is what this process took of them.
@@ -98,37 +192,34 @@ func processors() time.Duration {
 	return time.Duration(usage.Utime.Nano() + usage.Stime.Nano())
 }
 
-// work has callers use and stop a volume each, one after another, until a chunk is done, and tells how long each took.
-func work(b *testing.B, client wire.OrchestratorClient, callers int) []time.Duration {
+// work has callers use and stop a volume each, one after another, as long as a turn lasts, and tells how often both were done.
+func work(t *testing.T, client wire.OrchestratorClient, callers int) int {
 	var group sync.WaitGroup
-	var mutex sync.Mutex
-	var took []time.Duration
+	var count int64
+	end := time.Now().Add(turnLasts)
 	for caller := 0; caller < callers; caller++ {
 		group.Add(1)
 		go func(name string) {
 			defer group.Done()
-			for at := 0; at < chunk/callers; at++ {
-				began := time.Now()
+			for time.Now().Before(end) {
 				_, err := client.Use(ctx, &wire.UseRequest{Name: name, Node: "n1", Target: "/a", Capability: block, Wait: wire.Wait_AT_REST})
 				if err == nil {
 					_, err = client.Stop(ctx, &wire.StopRequest{Name: name, Node: "n1", Target: "/a", Wait: wire.Wait_AT_REST})
 				}
 				if err != nil {
-					b.Error(err)
+					t.Error(err)
 					return
 				}
-				mutex.Lock()
-				took = append(took, time.Since(began))
-				mutex.Unlock()
+				atomic.AddInt64(&count, 1)
 			}
 		}(fmt.Sprint("v", caller))
 	}
 	group.Wait()
-	return took
+	return int(count)
 }
 
-// newBenched serves an orchestrator over SQLite, which is watched or not.
-func newBenched(b *testing.B, isWatched bool) wire.OrchestratorClient {
+// newBenched serves an orchestrator over SQLite, which is watched or not, and tells where.
+func newBenched(b testing.TB, isWatched bool) (client wire.OrchestratorClient, address string) {
 	kept, err := store.OpenSQLite(ctx, filepath.Join(b.TempDir(), "o.db"))
 	if err != nil {
 		b.Fatal(err)
@@ -143,15 +234,15 @@ func newBenched(b *testing.B, isWatched bool) wire.OrchestratorClient {
 	roles.Set(nil, map[uint32]api.Role{own: api.Loses})
 	known := secure.Local{May: roles.MayConnect}
 	if isWatched {
-		watched(b, kept, listener, known, roles)
+		address = watched(b, kept, listener, known, roles)
 	} else {
 		serve(b, kept, &hosttest.Carrier{}, 8, listener, known, roles)
 	}
-	return wire.NewOrchestratorClient(dial(b, "unix://"+listener.Addr().String(), known))
+	return wire.NewOrchestratorClient(dial(b, "unix://"+listener.Addr().String(), known)), address
 }
 
-// watched serves one with all that tells of it.
-func watched(b *testing.B, kept store.Store, listener net.Listener, known secure.Local, roles *api.Roles) {
+// watched serves one with all that tells of it, and says where.
+func watched(b testing.TB, kept store.Store, listener net.Listener, known secure.Local, roles *api.Roles) (address string) {
 	told := metrics.NewOrchestrator()
 	keeps, err := history.Open(filepath.Join(b.TempDir(), "history"), history.Usual, zap.NewNop())
 	if err != nil {
@@ -181,24 +272,5 @@ func watched(b *testing.B, kept store.Store, listener net.Listener, known secure
 	}
 	go server.Serve(at)
 	b.Cleanup(func() { server.Close() })
-	go follow("http://" + at.Addr().String())
-}
-
-// follow follows as a page, and scrapes each second, until the server ends.
-func follow(address string) {
-	go func() {
-		for tick := time.NewTicker(time.Second); ; <-tick.C {
-			answer, err := http.Get(address + "/metrics")
-			if err != nil {
-				return
-			}
-			io.Copy(io.Discard, answer.Body)
-			answer.Body.Close()
-		}
-	}()
-	answer, err := http.Get(address + "/events")
-	if err == nil {
-		io.Copy(io.Discard, answer.Body)
-		answer.Body.Close()
-	}
+	return at.Addr().String()
 }

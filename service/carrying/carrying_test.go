@@ -124,7 +124,7 @@ func TestLimits(t *testing.T) {
 	}}
 	slow.Serve(t, socket(t, "n1"), nil)
 	quick := (&carryingtest.Plugin{Node: "n2"}).Serve(t, socket(t, "n2"), nil)
-	limits := carrying.Limits{AtController: 1, AtNode: 2, Answer: 500 * time.Millisecond}
+	limits := carrying.Limits{AtController: 1, AtNode: 2, Answer: 2 * time.Second}
 	carrier := carry(t, carrying.Peers{}, limits, map[string]string{"node:n1": slow.Address, "node:n2": quick.Address})
 	var group sync.WaitGroup
 	for at := 0; at < 8; at++ {
@@ -208,13 +208,25 @@ func TestReached(t *testing.T) {
 	}
 }
 
+// otherIsThere makes calls at a node until it is found that another one is there: until a connection is there, they fail otherwise. Each has to fail.
+func otherIsThere(t *testing.T, carrier *carrying.Carrier, node string) {
+	t.Helper()
+	for end := time.Now().Add(within); ; {
+		_, err := carrier.Carry(ctx, stage(node), time.Now().Add(50*time.Millisecond))
+		if errors.Is(err, carrying.ErrOther) {
+			return
+		}
+		if err == nil || time.Now().After(end) {
+			t.Fatalf("another node is there: %v", err)
+		}
+	}
+}
+
 // With two nodes' addresses exchanged, or another user's socket, nothing is sent to the wrong one.
 func TestExchanged(t *testing.T) {
 	other := (&carryingtest.Plugin{Node: "n2"}).Serve(t, socket(t, "n1"), nil)
 	carrier := carry(t, carrying.Peers{}, carrying.Limits{}, map[string]string{"node:n1": other.Address})
-	if _, err := carrier.Carry(ctx, stage("n1"), time.Now().Add(50*time.Millisecond)); !errors.Is(err, carrying.ErrOther) {
-		t.Errorf("another node is there: %v", err)
-	}
+	otherIsThere(t, carrier, "n1")
 	if state := carrier.States()["node:n1"]; state.Trouble != `another plugin is there: "n2"` {
 		t.Errorf("%+v", state)
 	}
@@ -233,11 +245,9 @@ func TestExchanged(t *testing.T) {
 	}
 	right.Stop()
 	later := (&carryingtest.Plugin{Node: "n4"}).Serve(t, right.Address, nil)
-	for _, want := range []error{nil, carrying.ErrOther} { // the first may still find the connection that ends
-		_, err := carrier.Carry(ctx, stage("n3"), time.Now().Add(500*time.Millisecond))
-		if err == nil || want != nil && !errors.Is(err, want) || len(later.Calls()) != 0 {
-			t.Errorf("another node came to the address: %v, %v", err, later.Calls())
-		}
+	otherIsThere(t, carrier, "n3") // the first calls may still find the connection that ends
+	if count := len(later.Calls()); count != 0 {
+		t.Errorf("another node came to the address, and got %d calls", count)
 	}
 }
 
@@ -268,8 +278,15 @@ func TestTLS(t *testing.T) {
 		}
 	}
 	exchanged := carry(t, peers, carrying.Limits{}, map[string]string{"node:n1": n2.Address})
-	if _, err := exchanged.Carry(ctx, stage("n1"), time.Now().Add(100*time.Millisecond)); !errors.Is(err, carrying.ErrNotReached) {
-		t.Errorf("another's address: %v", err)
+	isTold := func() bool {
+		mutex.Lock()
+		defer mutex.Unlock()
+		return told["node:n1"] != nil
+	}
+	for end := time.Now().Add(within); !isTold() && time.Now().Before(end); {
+		if _, err := exchanged.Carry(ctx, stage("n1"), time.Now().Add(100*time.Millisecond)); !errors.Is(err, carrying.ErrNotReached) {
+			t.Errorf("another's address: %v", err)
+		}
 	}
 	mutex.Lock()
 	defer mutex.Unlock()
@@ -321,10 +338,19 @@ func TestTroubles(t *testing.T) {
 		for end := time.Now().Add(within); ; time.Sleep(5 * time.Millisecond) {
 			state := carrier.States()["node:n1"]
 			if state.Amiss == want && (want == "" || state.IsReached()) {
-				return
+				break
 			}
 			if time.Now().After(end) {
 				t.Fatalf("it is %+v, and not %q", state, want)
+			}
+		}
+		for volume := uint64(1); volume < 4; volume++ {
+			why := ""
+			if want == fmt.Sprintf("volume %d isn't mounted", volume) {
+				why = "its machine was started again: there is no device"
+			}
+			if said := carrier.Unmounted("n1", volume) + carrier.Unmounted("n2", volume); said != why {
+				t.Errorf("volume %d: %q, and not %q", volume, said, why)
 			}
 		}
 	}

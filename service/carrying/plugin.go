@@ -29,6 +29,8 @@ type plugin struct {
 	known   uint64 // that over which it said that it is the node that it should be
 	trouble string // why it isn't reached
 	amiss   string // what it says of itself that isn't as its record has it
+	// unmounted says why volumes aren't mounted there that its record has. Nobody changes it.
+	unmounted map[uint64]string
 }
 
 func newPlugin(name, address string, limit int, dial Dial, heard Heard) (*plugin, error) {

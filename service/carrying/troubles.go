@@ -31,7 +31,7 @@ func (plugin *plugin) listen() {
 			continue
 		}
 		err := plugin.hear(ctx)
-		plugin.says("")
+		plugin.says(&told.TroublesResponse{})
 		if status.Code(err) == codes.Unimplemented { // an earlier version, or another plugin
 			plugin.connection.WaitForStateChange(ctx, connectivity.Ready)
 			continue
@@ -52,7 +52,7 @@ func (plugin *plugin) hear(ctx context.Context) error {
 	for err == nil {
 		var response *told.TroublesResponse
 		if response, err = stream.Recv(); err == nil {
-			plugin.says(response.Trouble)
+			plugin.says(response)
 			if response.Asks {
 				asked.Do(func() { go plugin.confirm(ctx) })
 			}
@@ -81,8 +81,31 @@ func (plugin *plugin) confirm(ctx context.Context) {
 	}
 }
 
-func (plugin *plugin) says(text string) {
+// says keeps what a node says.
+func (plugin *plugin) says(response *told.TroublesResponse) {
+	var unmounted map[uint64]string
+	if len(response.Unmounted) > 0 {
+		unmounted = make(map[uint64]string, len(response.Unmounted))
+	}
+	for _, it := range response.Unmounted {
+		unmounted[it.Volume] = it.Why
+	}
 	plugin.mutex.Lock()
 	defer plugin.mutex.Unlock()
-	plugin.amiss = text
+	plugin.amiss, plugin.unmounted = response.Trouble, unmounted
+}
+
+// Unmounted says why a volume isn't mounted at a node, or not everywhere, though the record has it there, as the node itself says: nothing where it is, and
+// where the node isn't reached.
+func (carrier *Carrier) Unmounted(node string, volume uint64) string {
+	plugin := carrier.plugin(NodeName(node))
+	if plugin == nil {
+		return ""
+	}
+	plugin.mutex.Lock()
+	defer plugin.mutex.Unlock()
+	if why := plugin.unmounted[volume]; why != "" {
+		return "its machine was started again: " + why
+	}
+	return ""
 }

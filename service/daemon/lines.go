@@ -81,14 +81,7 @@ func (it *toLines) appendTime(to []byte, at time.Time) []byte {
 	if second := at.Unix(); second != it.second || it.stamp == nil {
 		it.second, it.stamp = second, at.Truncate(time.Second).AppendFormat(it.stamp[:0], time.RFC3339)
 	}
-	to = append(to, it.stamp[:beforeFraction]...)
-	if fraction := at.Nanosecond(); fraction > 0 {
-		digits := strconv.AppendInt(to, int64(fraction)+1e9, 10) // the 1 is where the point belongs
-		digits[len(to)] = '.'
-		for to = digits; to[len(to)-1] == '0'; {
-			to = to[:len(to)-1]
-		}
-	}
+	to = appendFraction(append(to, it.stamp[:beforeFraction]...), int64(at.Nanosecond()))
 	return append(to, it.stamp[beforeFraction:]...)
 }
 
@@ -111,9 +104,33 @@ func appendField(to []byte, field *zapcore.Field) (line []byte, isSimple bool) {
 	case zapcore.Int64Type:
 		return strconv.AppendInt(line, field.Integer, 10), true
 	case zapcore.DurationType:
-		return strconv.AppendFloat(line, float64(field.Integer)/float64(time.Second), 'f', -1, 64), true
+		return appendSeconds(line, field.Integer), true
 	}
 	return to, false
+}
+
+// mostExact is the first number of nanoseconds whose seconds a float of 64 bits may not have exactly, in as many digits.
+const mostExact = 1e15
+
+// appendSeconds appends nanoseconds as seconds, in the fewest digits that tell the float, as zap's own encoder does.
+func appendSeconds(to []byte, nanoseconds int64) []byte {
+	if nanoseconds < 0 || nanoseconds >= mostExact {
+		return strconv.AppendFloat(to, float64(nanoseconds)/float64(time.Second), 'f', -1, 64)
+	}
+	return appendFraction(strconv.AppendInt(to, nanoseconds/1e9, 10), nanoseconds%1e9)
+}
+
+// appendFraction appends a point and so many billionths without the zeros at their end, and nothing of none.
+func appendFraction(to []byte, fraction int64) []byte {
+	if fraction == 0 {
+		return to
+	}
+	digits := strconv.AppendInt(to, fraction+1e9, 10) // the 1 is where the point belongs
+	digits[len(to)] = '.'
+	for to = digits; to[len(to)-1] == '0'; {
+		to = to[:len(to)-1]
+	}
+	return to
 }
 
 // textOf is what a value says of itself, unless it panics.

@@ -21,6 +21,7 @@ import (
 const (
 	mostAnew  = 8 // volumes of which something is done anew at once
 	mostPause = 30 * time.Second
+	mostWhy   = 256 // bytes of why a volume isn't mounted, since all are told at once
 )
 
 // errNoStaging says that a volume is staged, and that its path isn't kept.
@@ -214,22 +215,40 @@ func (anew *Anew) trouble() Trouble {
 	if len(anew.left) == 0 {
 		return Trouble{}
 	}
-	volumes := make([]uint64, 0, len(anew.left))
-	for volume, one := range anew.left {
-		if one.why != nil {
-			volumes = append(volumes, volume)
+	trouble, first := Trouble{Asks: true, Unmounted: anew.unmounted()}, (*one)(nil)
+	for _, it := range trouble.Unmounted {
+		if one := anew.left[it.Volume]; one.why != nil {
+			first = one
+			break
 		}
 	}
 	count := len(anew.left)
-	if len(volumes) == 0 {
-		return Trouble{Text: fmt.Sprintf("its machine was started again: volumes that aren't mounted yet: %d", count), Asks: true}
+	if first == nil {
+		trouble.Text = fmt.Sprintf("its machine was started again: volumes that aren't mounted yet: %d", count)
+		return trouble
 	}
-	sort.Slice(volumes, func(i, j int) bool { return volumes[i] < volumes[j] })
-	text := fmt.Sprintf("its machine was started again: volume %d isn't mounted: %v", volumes[0], anew.left[volumes[0]].why)
+	trouble.Text = fmt.Sprintf("its machine was started again: volume %d isn't mounted: %v", first.volume, first.why)
 	if count > 1 {
-		text += fmt.Sprintf(" (and others: %d)", count-1)
+		trouble.Text += fmt.Sprintf(" (and others: %d)", count-1)
 	}
-	return Trouble{Text: text, Asks: true}
+	return trouble
+}
+
+// unmounted are the volumes of which something isn't done yet, by rising id, with why. The lock is held.
+func (anew *Anew) unmounted() []Unmounted {
+	all := make([]Unmounted, 0, len(anew.left))
+	for volume, one := range anew.left {
+		why := "it isn't mounted yet"
+		if one.why != nil {
+			why = one.why.Error()
+		}
+		if len(why) > mostWhy {
+			why = strings.ToValidUTF8(why[:mostWhy], "")
+		}
+		all = append(all, Unmounted{volume, why})
+	}
+	sort.Slice(all, func(i, j int) bool { return all[i].Volume < all[j].Volume })
+	return all
 }
 
 // judge refuses to publish a volume of which something isn't done anew: there might be nothing that could be published. A nil Anew refuses nothing.

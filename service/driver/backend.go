@@ -89,8 +89,28 @@ func (backend *Backend) change() {
 
 // A Trouble is what isn't mounted that a node's record has: no text where all is.
 type Trouble struct {
-	Text string
-	Asks bool // nothing is mounted before it is confirmed that the store is no older copy
+	Text      string
+	Asks      bool        // nothing is mounted before it is confirmed that the store is no older copy
+	Unmounted []Unmounted // by rising id
+}
+
+// An Unmounted is a volume that isn't mounted, or not everywhere, and why.
+type Unmounted struct {
+	Volume uint64
+	Why    string
+}
+
+// is says whether two troubles say the same.
+func (trouble Trouble) is(other Trouble) bool {
+	if trouble.Text != other.Text || trouble.Asks != other.Asks || len(trouble.Unmounted) != len(other.Unmounted) {
+		return false
+	}
+	for at, it := range trouble.Unmounted {
+		if it != other.Unmounted[at] {
+			return false
+		}
+	}
+	return true
 }
 
 // tellTrouble sets the trouble.
@@ -102,7 +122,7 @@ func (backend *Backend) tellTrouble(trouble Trouble) {
 		trouble.Asks = false
 	default:
 	}
-	if backend.trouble != trouble {
+	if !backend.trouble.is(trouble) {
 		backend.trouble = trouble
 		backend.change()
 	}
@@ -125,7 +145,7 @@ func (backend *Backend) confirm(err error) {
 	case errors.Is(err, serving.ErrEarlier) && backend.trouble.Asks:
 		backend.trouble.Text = "its store is an older copy, or another's: nothing is mounted by it"
 	}
-	if backend.trouble != was {
+	if !backend.trouble.is(was) {
 		backend.change()
 	}
 }

@@ -3,6 +3,7 @@ package driver
 import (
 	"context"
 	"encoding/hex"
+	"time"
 
 	"google.golang.org/grpc"
 
@@ -58,17 +59,38 @@ func (plugin *plugin) Troubles(_ *wire.TroublesRequest, stream wire.Plugin_Troub
 		if _, err := plugin.backend.core(); err != nil {
 			return err
 		}
-		if trouble != told {
-			if err := stream.Send(&wire.TroublesResponse{Trouble: trouble.Text, Asks: trouble.Asks}); err != nil {
+		if !trouble.is(told) {
+			if err := stream.Send(responseOf(trouble)); err != nil {
 				return err
 			}
 			told = trouble
+			if err := pause(stream.Context()); err != nil {
+				return err
+			}
 		}
 		select {
 		case <-changed:
 		case <-stream.Context().Done():
 			return stream.Context().Err()
 		}
+	}
+}
+
+func responseOf(trouble Trouble) *wire.TroublesResponse {
+	response := &wire.TroublesResponse{Trouble: trouble.Text, Asks: trouble.Asks}
+	for _, it := range trouble.Unmounted {
+		response.Unmounted = append(response.Unmounted, &wire.Unmounted{Volume: it.Volume, Why: it.Why})
+	}
+	return response
+}
+
+// pause waits a moment, so that what changes soon again is told once.
+func pause(ctx context.Context) error {
+	select {
+	case <-time.After(50 * time.Millisecond):
+		return nil
+	case <-ctx.Done():
+		return ctx.Err()
 	}
 }
 

@@ -96,9 +96,8 @@ func (it *making) leave(names []string) {
 
 // commands asks for a command, which sends a call.
 func (it *making) commands(command host.Command) {
-	_, event := eventOf(command)
 	it.sendsOf(command.Name)
-	it.event(event, fmt.Sprint("sent ", it.frames))
+	it.event(appendEvent(nil, &command), fmt.Sprint("sent ", it.frames))
 }
 
 func (it *making) sendsOf(name string) { it.last[name] = &delivery{frame: it.sends()} }

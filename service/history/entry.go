@@ -3,6 +3,7 @@ package history
 import (
 	"encoding/json"
 	"fmt"
+	"strconv"
 	"strings"
 	"time"
 
@@ -35,7 +36,12 @@ type Entry struct {
 	// IsCut says that something is missing between this and what the volume was like later: it is told, and is no part of a schedule.
 	IsCut bool                    `json:"cut,omitempty"`
 	Rows  map[string]*records.Row `json:"rows,omitempty"` // of a session or a loss: as the volumes are then that it changed; null of names that are free
+
+	at where // of a use or a stop that came since this process began, and isn't packed
 }
+
+// where is what a command says beside the name.
+type where struct{ Node, Target string }
 
 // What entries are of, beside the commands.
 const (
@@ -57,32 +63,43 @@ type Call struct {
 
 // String is as a log has it.
 func (call Call) String() string {
-	return fmt.Sprintf("%s %d.%d to %s", call.Kind, call.Number.Session, call.Number.Call, call.Plugin)
+	return call.Kind + " " + strconv.FormatUint(call.Number.Session, 10) + "." + strconv.FormatUint(call.Number.Call, 10) + " to " + call.Plugin
 }
 
-func callOf(call frames.Call) *Call {
-	return &Call{Number: call.Number, Kind: call.Kind().String(), Plugin: carrying.PluginOf(call)}
+// plugins are names of plugins, each made once.
+type plugins map[string]string // by the nodes' ids
+
+// of is the name of the plugin that a call goes to.
+func (names plugins) of(call *frames.Call) string {
+	if !call.Kind().OfNode() {
+		return carrying.Controller
+	}
+	name, isThere := names[call.Node]
+	if !isThere {
+		name = carrying.NodeName(call.Node)
+		names[call.Node] = name
+	}
+	return name
 }
 
-// entryOf is what is kept of something that happened.
-func entryOf(it *host.Happening) Entry {
-	entry := Entry{Time: it.Time.UnixMilli(), Session: it.Session, Name: it.Name, Row: it.Row}
+func (names plugins) callOf(call *frames.Call) *Call {
+	return &Call{Number: call.Number, Kind: call.Kind().String(), Plugin: names.of(call)}
+}
+
+// keepIn has an entry, which is empty, be what is kept of something that happened.
+func (names plugins) keepIn(entry *Entry, it *host.Happening) {
+	entry.Time, entry.Session, entry.Name, entry.Row = it.Time.UnixMilli(), it.Session, it.Name, it.Row
 	if it.Sent != nil {
-		entry.Sent = callOf(*it.Sent)
+		entry.Sent = names.callOf(it.Sent)
 	}
 	switch it.What {
 	case host.Commanded:
-		entry.What, entry.Event = eventOf(it.Command)
-		entry.Outcome = sent
-		if it.IsMet {
-			entry.Outcome = met
-		} else if it.Refusal != 0 {
-			entry.Outcome = fmt.Sprintf("refused %d %s", uint32(it.Refusal), it.Refusal.Name())
-		}
+		entry.What, entry.Event, entry.Outcome = commandNames[it.Command.Kind], appendEvent(make([]byte, 0, 160), &it.Command), outcomeOf(it)
+		entry.at = where{it.Command.Node, it.Command.Target}
 	case host.Replied:
-		entry.What, entry.Call, entry.Status, entry.Volume, entry.Detail = reply, callOf(it.Call), it.Reply.Status, it.Reply.Volume, it.Reply.Detail
+		entry.What, entry.Call, entry.Status, entry.Volume, entry.Detail = reply, names.callOf(&it.Call), it.Reply.Status, it.Reply.Volume, it.Reply.Detail
 	case host.Unanswered:
-		entry.What, entry.Call, entry.Detail = none, callOf(it.Call), it.Why
+		entry.What, entry.Call, entry.Detail = none, names.callOf(&it.Call), it.Why
 	case host.TimedOut:
 		entry.What, entry.Event = timeout, encode(map[string]string{timeout: it.Name})
 	case host.Began:
@@ -90,7 +107,17 @@ func entryOf(it *host.Happening) Entry {
 	case host.Lost:
 		entry.What, entry.Nodes, entry.Event = lose, it.Nodes, encode(map[string]string{lose: it.Node})
 	}
-	return entry
+}
+
+// outcomeOf is what a command came to.
+func outcomeOf(it *host.Happening) string {
+	switch {
+	case it.IsMet:
+		return met
+	case it.Refusal != 0:
+		return fmt.Sprintf("refused %d %s", uint32(it.Refusal), it.Refusal.Name())
+	}
+	return sent
 }
 
 // Text is what the entry says, in a line, without its time and name.
@@ -98,12 +125,12 @@ func (entry *Entry) Text() string {
 	text := ""
 	switch entry.What {
 	case reply:
-		text = fmt.Sprintf("%v: %v", *entry.Call, codes.Code(entry.Status))
+		text = entry.Call.String() + ": " + codes.Code(entry.Status).String()
 		if entry.Detail != "" {
 			text += " " + entry.Detail
 		}
 	case none:
-		return fmt.Sprintf("%v: %s", *entry.Call, entry.Detail)
+		return entry.Call.String() + ": " + entry.Detail
 	case timeout:
 		text = "timeout"
 	case session:
@@ -135,14 +162,16 @@ func (entry *Entry) node() string {
 
 // asked is the command, without the volume's name.
 func (entry *Entry) asked() string {
-	var event map[string]struct{ Node, Target string }
-	if json.Unmarshal(entry.Event, &event) != nil { // of a delete the value is a text
+	at := entry.at
+	if at.Node == "" && (entry.What == commandNames[host.Use] || entry.What == commandNames[host.Stop]) {
+		var event map[string]where
+		_ = json.Unmarshal(entry.Event, &event) // this package wrote it
+		at = event[entry.What]
+	}
+	if at.Node == "" {
 		return entry.What
 	}
-	if it := event[entry.What]; it.Node != "" {
-		return fmt.Sprintf("%s at %s %s", entry.What, it.Node, it.Target)
-	}
-	return entry.What
+	return entry.What + " at " + at.Node + " " + at.Target
 }
 
 // At is the entry's time.

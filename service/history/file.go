@@ -22,7 +22,6 @@ type file struct {
 	lines   int
 	isStale bool // it has to be written anew
 	err     error
-	scratch []byte
 }
 
 // head is the first line.
@@ -68,31 +67,25 @@ func (made *History) read(content []byte) error {
 		made.rows[name] = row
 	}
 	for at, line := range lines[1:] {
-		var entry Entry
-		if !bytes.HasSuffix(line, []byte("\n")) || json.Unmarshal(line, &entry) != nil {
+		entry := &Entry{}
+		if !bytes.HasSuffix(line, []byte("\n")) || json.Unmarshal(line, entry) != nil {
 			if len(line) > 0 {
 				made.log.Warn("the rest of the history can't be read", zap.Int("line", at+2))
 			}
 			break
 		}
-		made.add(entry)
+		made.put(entry)
 	}
 	return nil
 }
 
 // write writes an entry's line, unless the file is to be written anew.
-func (it *file) write(entry *Entry) {
+func (it *file) write(line []byte) {
 	if it.err != nil || it.isStale {
 		return
 	}
 	it.lines++
-	it.line(it.buffer, entry) // it remembers what fails, until it is flushed
-}
-
-// line writes the line of an entry.
-func (it *file) line(to *bufio.Writer, entry *Entry) {
-	it.scratch = append(appendEntry(it.scratch[:0], entry), '\n')
-	to.Write(it.scratch)
+	it.buffer.Write(line) // it remembers what fails, until it is flushed
 }
 
 // save has the file have all. The lock is held. Where the file can't be written, the history goes on in memory.
@@ -119,9 +112,11 @@ func (made *History) rewrite() error {
 		return err
 	}
 	buffer := bufio.NewWriterSize(anew, 64<<10)
-	buffer.Write(append(encode(head{Version: fileVersion, Before: made.before, Base: made.base}), '\n'))
-	for at := range made.entries {
-		it.line(buffer, &made.entries[at])
+	buffer.Write(append(encode(head{Version: fileVersion, Before: made.before, Base: made.settled()}), '\n'))
+	var lines []byte
+	for _, packed := range made.packs {
+		lines = packed.appendTo(lines[:0])
+		buffer.Write(lines)
 	}
 	if err = buffer.Flush(); err == nil {
 		err = os.Rename(it.path+".new", it.path)
@@ -133,7 +128,7 @@ func (made *History) rewrite() error {
 	if it.to != nil {
 		it.to.Close()
 	}
-	it.to, it.buffer, it.lines, it.isStale = anew, buffer, len(made.entries), false
+	it.to, it.buffer, it.lines, it.isStale = anew, buffer, made.count, false
 	return nil
 }
 

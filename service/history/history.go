@@ -36,10 +36,16 @@ type History struct {
 	mutex   sync.Mutex
 	config  json.RawMessage // of the service now
 	base    base
-	entries []Entry                 // behind the oldest, which go, there is room for as many as are kept
+	late    map[string]*[]byte      // by the volumes' names: the lines of entries that the base is to have, and hasn't yet
+	packs   []*pack                 // all entries
+	last    *pack                   // the last one of these, which is filled
+	count   int                     // of the entries
+	fresh   int                     // how many are packed together
+	entries []recent                // the last ones
 	before  uint64                  // how many there were before these
 	rows    map[string]*records.Row // as they are behind the last entry
-	isCut   bool                    // the next session says how volumes are, since something may be missing
+	plugins plugins
+	isCut   bool // the next session says how volumes are, since something may be missing
 	file    *file
 }
 
@@ -47,9 +53,11 @@ type History struct {
 // to the log.
 func Open(path string, most int, log *zap.Logger) (*History, error) {
 	made := &History{
-		most: most, log: log, come: coming{told: make(chan struct{})}, isCut: true,
-		base: base{Rows: map[string]*records.Row{}}, rows: map[string]*records.Row{},
+		most: most, fresh: int(least(mostFresh, uint64(most/4+1))), late: map[string]*[]byte{}, log: log, come: coming{told: make(chan struct{})}, isCut: true,
+		base: base{Rows: map[string]*records.Row{}}, rows: map[string]*records.Row{}, plugins: plugins{},
 	}
+	made.last = newPack(made.fresh, 0, 0)
+	made.packs = []*pack{made.last}
 	if path != "" {
 		if err := made.open(path); err != nil {
 			return nil, fmt.Errorf("the history: %w", err)
@@ -109,49 +117,62 @@ func (made *History) keep(batches [][]host.Happening) {
 
 // take takes an event in. The lock is held.
 func (made *History) take(it *host.Happening) {
-	entry := entryOf(it)
-	if entry.What == session || entry.What == lose {
-		if entry.What == session && made.isMissing(it.After) {
-			entry.Detail += fmt.Sprintf("; what happened before, up to session %d, isn't all here", it.After)
-		}
-		entry.Rows = made.begins(it)
-		entry.Config = made.config
-	} else if !same(made.rows[entry.Name], it.Before) {
-		made.cut(map[string]*records.Row{entry.Name: it.Before})
+	if it.What == host.Began || it.What == host.Lost {
+		made.takeWhole(it)
+		return
 	}
+	if !same(made.rows[it.Name], it.Before) {
+		made.cut(map[string]*records.Row{it.Name: it.Before})
+	}
+	last := made.last
+	before := len(last.lines)
+	last.lines = made.plugins.appendHappening(last.lines, it)
 	if made.file != nil {
-		made.file.write(&entry)
+		made.file.write(last.lines[before:])
 	}
-	made.add(entry)
+	made.rows[it.Name] = it.Row
+	if it.Row == nil {
+		delete(made.rows, it.Name)
+	}
+	made.add(recent{happened: it})
+}
+
+// takeWhole takes in a session, or a loss.
+func (made *History) takeWhole(it *host.Happening) {
+	entry := &Entry{}
+	made.plugins.keepIn(entry, it)
+	if entry.What == session && made.isMissing(it.After) {
+		entry.Detail += fmt.Sprintf("; what happened before, up to session %d, isn't all here", it.After)
+	}
+	entry.Rows = made.begins(it)
+	entry.Config = made.config
+	if made.file != nil {
+		made.file.write(appendLine(nil, entry))
+	}
+	made.put(entry)
+}
+
+// put takes in an entry that is there.
+func (made *History) put(entry *Entry) {
+	it := recent{entry: entry, isCut: entry.IsCut}
+	if !entry.isWhole() {
+		entry.IsCut = false // a mark says so
+		made.last.lines = appendLine(made.last.lines, entry)
+		entry.IsCut = it.isCut
+	}
+	made.learn(entry, made.rows)
+	if made.before == 0 && made.count == 0 && made.base.Config == nil {
+		made.base.Config, made.base.Nodes = entry.Config, entry.Nodes
+	}
+	made.add(it)
 }
 
 // isMissing says whether another service led, or nothing was kept, in the session after which this process's first one begins.
 func (made *History) isMissing(after uint64) bool {
 	if count := len(made.entries); count > 0 {
-		return made.isCut && made.entries[count-1].Session != after
+		return made.isCut && made.entries[count-1].made(made.plugins).Session != after
 	}
 	return made.isCut && after > 0
-}
-
-// add takes an entry in, and lets the oldest go where there are too many.
-func (made *History) add(entry Entry) {
-	made.learn(&entry, made.rows)
-	if len(made.entries) == 0 && made.before == 0 && made.base.Config == nil {
-		made.base.Config, made.base.Nodes = entry.Config, entry.Nodes
-	}
-	if count := len(made.entries); count == cap(made.entries) && count >= made.most {
-		made.entries = append(make([]Entry, 0, 2*count), made.entries...)
-	}
-	made.entries = append(made.entries, entry)
-	for len(made.entries) > made.most {
-		oldest := &made.entries[0]
-		made.learn(oldest, made.base.Rows)
-		if oldest.What == session || oldest.What == lose {
-			made.base.Config, made.base.Nodes = oldest.Config, oldest.Nodes
-		}
-		made.entries = made.entries[1:]
-		made.before++
-	}
 }
 
 // learn has rows be as they are behind an entry.
@@ -208,16 +229,22 @@ func (made *History) begins(it *host.Happening) map[string]*records.Row {
 
 // cut leaves the entries of volumes out of schedules, in which these rows are what they begin with.
 func (made *History) cut(begin map[string]*records.Row) {
+	for _, it := range made.packs {
+		it.cut(begin)
+	}
 	for at := range made.entries {
-		entry := &made.entries[at]
-		if _, isCut := begin[entry.Name]; isCut {
-			entry.IsCut = true
+		it := &made.entries[at]
+		if _, isCut := begin[it.name()]; isCut {
+			it.isCut = true
 		}
-		for name := range begin {
-			delete(entry.Rows, name)
+		if it.entry != nil {
+			for name := range begin {
+				delete(it.entry.Rows, name)
+			}
 		}
 	}
 	for name, row := range begin {
+		delete(made.late, name)
 		made.base.Rows[name] = row
 		if row == nil {
 			delete(made.base.Rows, name)
@@ -241,7 +268,7 @@ func (made *History) Count() (kept int, lost uint64) {
 	made.mutex.Lock()
 	defer made.mutex.Unlock()
 	made.keep(made.come.take())
-	return len(made.entries), made.come.losses()
+	return made.count, made.come.losses()
 }
 
 // Last gives the last entries, at most so many, of a volume or of all, and sessions and losses with both; and behind a count of entries, which is handed
@@ -251,14 +278,9 @@ func (made *History) Last(name string, most int, behind uint64) (last []Entry, c
 	defer made.mutex.Unlock()
 	came, more := made.come.more()
 	made.keep(came)
-	count = made.before + uint64(len(made.entries))
-	if name == "" && count > behind && most > 0 {
-		last = make([]Entry, 0, least(count-behind, uint64(most), uint64(len(made.entries))))
-	}
-	for at := len(made.entries) - 1; at >= 0 && made.before+uint64(at) >= behind && len(last) < most; at-- {
-		if entry := &made.entries[at]; name == "" || entry.Name == "" || entry.Name == name {
-			last = append(last, *entry)
-		}
+	count = made.before + uint64(made.count)
+	if count > behind {
+		last = made.backwards(name, most, int(least(count-behind, uint64(made.count))))
 	}
 	for i, j := 0, len(last)-1; i < j; i, j = i+1, j-1 {
 		last[i], last[j] = last[j], last[i]

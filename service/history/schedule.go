@@ -17,13 +17,14 @@ func (made *History) Schedule(name string, most int) *replaying.Schedule {
 	made.mutex.Lock()
 	defer made.mutex.Unlock()
 	made.keep(made.come.take())
-	first, entries := made.base, made.entries
-	if made.before == 0 && len(entries) > 0 && entries[0].What == session {
+	first, entries := made.settled(), made.all(name)
+	if made.before == 0 && made.beginsWith() == session {
 		entries = entries[1:] // its list and rows are the base's
 	}
 	if name != "" {
+		row := first.Rows[name]
 		first.Rows = map[string]*records.Row{}
-		if row := made.base.Rows[name]; row != nil {
+		if row != nil {
 			first.Rows[name] = row
 		}
 		first, entries = since(first, entries, name, most)

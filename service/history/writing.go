@@ -1,7 +1,6 @@
 package history
 
 import (
-	"encoding/json"
 	"strconv"
 
 	"tufayon/service/frames"
@@ -9,12 +8,21 @@ import (
 	"tufayon/service/records"
 )
 
-// What is written of each event is appended here, as encoding/json would write it: that takes several times as long.
+// What is written of each event is appended here, so that encoding/json reads it: that takes several times as long to write it. What a row has of 0, no
+// text, or no list is left out. Keys are handed in as they are written, with quotation marks and the colon.
+
+// plain has the bytes that stand in a text of JSON as they are.
+var plain = func() (plain [256]bool) {
+	for it := ' '; it <= '~'; it++ {
+		plain[it] = it != '"' && it != '\\' && it != '<' && it != '>' && it != '&'
+	}
+	return plain
+}()
 
 // isPlain says whether a text stands in JSON as it is.
 func isPlain(text string) bool {
 	for at := 0; at < len(text); at++ {
-		if it := text[at]; it < ' ' || it > '~' || it == '"' || it == '\\' || it == '<' || it == '>' || it == '&' {
+		if !plain[text[at]] {
 			return false
 		}
 	}
@@ -35,9 +43,7 @@ func appendKey(to []byte, key string) []byte {
 	if to[len(to)-1] != '{' {
 		to = append(to, ',')
 	}
-	to = append(to, '"')
-	to = append(to, key...)
-	return append(to, '"', ':')
+	return append(to, key...)
 }
 
 func appendTextOf(to []byte, key, text string) []byte { return appendText(appendKey(to, key), text) }
@@ -50,40 +56,43 @@ func appendFlagOf(to []byte, key string, is bool) []byte {
 	return strconv.AppendBool(appendKey(to, key), is)
 }
 
+// appendLine appends an entry's line.
+func appendLine(to []byte, entry *Entry) []byte { return append(appendEntry(to, entry), '\n') }
+
 // appendEntry appends a line, without its end.
 func appendEntry(to []byte, entry *Entry) []byte {
 	if entry.What == session || entry.What == lose {
 		return append(to, encode(entry)...)
 	}
 	to = append(to, '{')
-	to = strconv.AppendInt(appendKey(to, "time"), entry.Time, 10)
-	to = appendNumberOf(to, "session", entry.Session)
-	to = appendTextOf(to, "what", entry.What)
+	to = strconv.AppendInt(appendKey(to, `"time":`), entry.Time, 10)
+	to = appendNumberOf(to, `"session":`, entry.Session)
+	to = appendTextOf(to, `"what":`, entry.What)
 	if entry.Name != "" {
-		to = appendTextOf(to, "name", entry.Name)
+		to = appendTextOf(to, `"name":`, entry.Name)
 	}
 	if len(entry.Event) > 0 {
-		to = append(appendKey(to, "event"), entry.Event...)
+		to = append(appendKey(to, `"event":`), entry.Event...)
 	}
 	if entry.Outcome != "" {
-		to = appendTextOf(to, "outcome", entry.Outcome)
+		to = appendTextOf(to, `"outcome":`, entry.Outcome)
 	}
-	to = appendCallOf(to, "call", entry.Call)
+	to = appendCallOf(to, `"call":`, entry.Call)
 	if entry.Status != 0 {
-		to = appendNumberOf(to, "status", uint64(entry.Status))
+		to = appendNumberOf(to, `"status":`, uint64(entry.Status))
 	}
 	if entry.Volume != 0 {
-		to = appendNumberOf(to, "volume", entry.Volume)
+		to = appendNumberOf(to, `"volume":`, entry.Volume)
 	}
 	if entry.Detail != "" {
-		to = appendTextOf(to, "detail", entry.Detail)
+		to = appendTextOf(to, `"detail":`, entry.Detail)
 	}
-	to = appendCallOf(to, "sent", entry.Sent)
+	to = appendCallOf(to, `"sent":`, entry.Sent)
 	if entry.Row != nil {
-		to = appendRow(appendKey(to, "row"), entry.Row)
+		to = appendRow(appendKey(to, `"row":`), entry.Row)
 	}
 	if entry.IsCut {
-		to = appendFlagOf(to, "cut", true)
+		to = appendFlagOf(to, `"cut":`, true)
 	}
 	return append(to, '}')
 }
@@ -92,108 +101,174 @@ func appendCallOf(to []byte, key string, call *Call) []byte {
 	if call == nil {
 		return to
 	}
+	return appendNumbered(to, key, call.Number, call.Kind, call.Plugin)
+}
+
+func appendNumbered(to []byte, key string, number frames.Number, kind, plugin string) []byte {
 	to = append(appendKey(to, key), `{"number":{`...)
-	to = appendNumberOf(to, "Session", call.Number.Session)
-	to = append(appendNumberOf(to, "Call", call.Number.Call), '}')
-	to = appendTextOf(to, "kind", call.Kind)
-	return append(appendTextOf(to, "plugin", call.Plugin), '}')
+	to = appendNumberOf(to, `"Session":`, number.Session)
+	to = append(appendNumberOf(to, `"Call":`, number.Call), '}')
+	to = appendTextOf(to, `"kind":`, kind)
+	return append(appendTextOf(to, `"plugin":`, plugin), '}')
+}
+
+// appendHappening appends the line of something that happened to a volume, as appendLine does that of its entry.
+func (names plugins) appendHappening(to []byte, it *host.Happening) []byte {
+	begin := func(what string) {
+		to = strconv.AppendInt(append(to, `{"time":`...), it.Time.UnixMilli(), 10)
+		to = appendTextOf(appendNumberOf(to, `"session":`, it.Session), `"what":`, what)
+		to = appendIfText(to, `"name":`, it.Name)
+	}
+	called := func(call *frames.Call, key string) {
+		to = appendNumbered(to, key, call.Number, call.Kind().String(), names.of(call))
+	}
+	switch it.What {
+	case host.Commanded:
+		begin(commandNames[it.Command.Kind])
+		to = appendEvent(appendKey(to, `"event":`), &it.Command)
+		to = appendTextOf(to, `"outcome":`, outcomeOf(it))
+	case host.Replied:
+		begin(reply)
+		called(&it.Call, `"call":`)
+		to = appendIfNumber(to, `"status":`, uint64(it.Reply.Status))
+		to = appendIfNumber(to, `"volume":`, it.Reply.Volume)
+		to = appendIfText(to, `"detail":`, it.Reply.Detail)
+	case host.Unanswered:
+		begin(none)
+		called(&it.Call, `"call":`)
+		to = appendIfText(to, `"detail":`, it.Why)
+	default:
+		begin(timeout)
+		to = append(appendTextOf(append(appendKey(to, `"event":`), '{'), `"timeout":`, it.Name), '}')
+	}
+	if it.Sent != nil {
+		called(it.Sent, `"sent":`)
+	}
+	if it.Row != nil {
+		to = appendRow(appendKey(to, `"row":`), it.Row)
+	}
+	return append(to, "}\n"...)
 }
 
 func appendRow(to []byte, row *records.Row) []byte {
 	to = append(to, '{')
-	to = appendTextOf(to, "Name", row.Name)
-	to = appendNumberOf(to, "Required", row.Required)
-	to = appendNumberOf(to, "Limit", row.Limit)
-	to = appendList(appendKey(to, "Capabilities"), row.Capabilities, appendCapability)
-	to = appendNumberOf(to, "Goal", uint64(row.Goal))
-	to = appendTextOf(to, "Node", row.Node)
-	to = appendTextOf(to, "Target", row.Target)
-	to = appendCapability(appendKey(to, "Capability"), row.Capability)
-	to = appendFlagOf(to, "Readonly", row.Readonly)
-	to = appendNumberOf(to, "ID", row.ID)
-	to = appendNumberOf(to, "Exists", uint64(row.Exists))
-	to = appendNumberOf(to, "Tries", uint64(row.Tries))
-	return append(appendList(appendKey(to, "At"), row.At, appendAt), '}')
+	to = appendIfText(to, `"Name":`, row.Name)
+	to = appendIfNumber(to, `"Required":`, row.Required)
+	to = appendIfNumber(to, `"Limit":`, row.Limit)
+	to = appendIfList(to, `"Capabilities":`, row.Capabilities, appendCapability)
+	to = appendIfNumber(to, `"Goal":`, uint64(row.Goal))
+	to = appendIfText(to, `"Node":`, row.Node)
+	to = appendIfText(to, `"Target":`, row.Target)
+	if row.Capability != (frames.Capability{}) {
+		to = appendCapability(appendKey(to, `"Capability":`), &row.Capability)
+	}
+	to = appendIf(to, `"Readonly":true`, row.Readonly)
+	to = appendIfNumber(to, `"ID":`, row.ID)
+	to = appendIfNumber(to, `"Exists":`, uint64(row.Exists))
+	to = appendIfNumber(to, `"Tries":`, uint64(row.Tries))
+	return append(appendIfList(to, `"At":`, row.At, appendAt), '}')
 }
 
-// appendList appends a list: null of none, as encoding/json does.
-func appendList[T any](to []byte, list []T, appendOne func([]byte, T) []byte) []byte {
-	if list == nil {
-		return append(to, "null"...)
+// appendIf appends a key with its value, if it is to.
+func appendIf(to []byte, both string, is bool) []byte {
+	if !is {
+		return to
 	}
+	return appendKey(to, both)
+}
+
+func appendIfText(to []byte, key, text string) []byte {
+	if text == "" {
+		return to
+	}
+	return appendTextOf(to, key, text)
+}
+
+func appendIfNumber(to []byte, key string, number uint64) []byte {
+	if number == 0 {
+		return to
+	}
+	return appendNumberOf(to, key, number)
+}
+
+// appendIfList appends a list, unless there is none.
+func appendIfList[T any](to []byte, key string, list []T, appendOne func([]byte, *T) []byte) []byte {
+	if list == nil {
+		return to
+	}
+	return appendList(appendKey(to, key), list, appendOne)
+}
+
+func appendList[T any](to []byte, list []T, appendOne func([]byte, *T) []byte) []byte {
 	to = append(to, '[')
-	for at, it := range list {
+	for at := range list {
 		if at > 0 {
 			to = append(to, ',')
 		}
-		to = appendOne(to, it)
+		to = appendOne(to, &list[at])
 	}
 	return append(to, ']')
 }
 
-func appendAt(to []byte, at records.At) []byte {
-	to = append(to, '{')
-	to = appendTextOf(to, "Node", at.Node)
-	to = appendCapability(appendKey(to, "Capability"), at.Capability)
-	to = appendFlagOf(to, "Readonly", at.Readonly)
-	to = appendNumberOf(to, "Attached", uint64(at.Attached))
-	to = appendNumberOf(to, "Staged", uint64(at.Staged))
-	return append(appendList(appendKey(to, "Targets"), at.Targets, appendTarget), '}')
+func appendAt(to []byte, at *records.At) []byte {
+	to = appendIfText(append(to, '{'), `"Node":`, at.Node)
+	to = appendCapability(appendKey(to, `"Capability":`), &at.Capability)
+	to = appendIf(to, `"Readonly":true`, at.Readonly)
+	to = appendIfNumber(to, `"Attached":`, uint64(at.Attached))
+	to = appendIfNumber(to, `"Staged":`, uint64(at.Staged))
+	return append(appendIfList(to, `"Targets":`, at.Targets, appendTarget), '}')
 }
 
-func appendTarget(to []byte, target records.Target) []byte {
-	to = append(to, '{')
-	to = appendTextOf(to, "Path", target.Path)
-	return append(appendNumberOf(to, "Published", uint64(target.Published)), '}')
+func appendTarget(to []byte, target *records.Target) []byte {
+	to = appendIfText(append(to, '{'), `"Path":`, target.Path)
+	return append(appendIfNumber(to, `"Published":`, uint64(target.Published)), '}')
 }
 
 // appendCapability appends one as a row has it.
-func appendCapability(to []byte, it frames.Capability) []byte {
-	to = append(to, '{')
-	to = appendFlagOf(to, "Mount", it.Mount)
-	to = appendTextOf(to, "FsType", it.FsType)
-	return append(appendNumberOf(to, "Mode", uint64(it.Mode)), '}')
+func appendCapability(to []byte, it *frames.Capability) []byte {
+	to = appendIf(append(to, '{'), `"Mount":true`, it.Mount)
+	to = appendIfText(to, `"FsType":`, it.FsType)
+	return append(appendIfNumber(to, `"Mode":`, uint64(it.Mode)), '}')
 }
 
 // appendAccess appends one as a schedule has it.
-func appendAccess(to []byte, it frames.Capability) []byte {
+func appendAccess(to []byte, it *frames.Capability) []byte {
 	to = append(to, '{')
 	if it.Mount {
-		to = appendTextOf(appendTextOf(to, "access", "mount"), "fs", it.FsType)
+		to = appendTextOf(appendTextOf(to, `"access":`, "mount"), `"fs":`, it.FsType)
 	} else {
-		to = appendTextOf(to, "access", "block")
+		to = appendTextOf(to, `"access":`, "block")
 	}
-	return append(appendNumberOf(to, "mode", uint64(it.Mode)), '}')
+	return append(appendNumberOf(to, `"mode":`, uint64(it.Mode)), '}')
 }
 
-// eventOf is a command as a schedule has it, and its key.
-func eventOf(command host.Command) (key string, event json.RawMessage) {
-	key = commandNames[command.Kind]
-	to := appendKey(append(make([]byte, 0, 192), '{'), key)
+// appendEvent appends a command as a schedule has it.
+func appendEvent(to []byte, command *host.Command) []byte {
+	to = append(append(append(to, '{', '"'), commandNames[command.Kind]...), '"', ':')
 	switch command.Kind {
 	case host.Create:
 		capabilities := command.Capabilities
 		if capabilities == nil {
 			capabilities = []frames.Capability{}
 		}
-		to = appendList(appendKey(append(to, '{'), "capabilities"), capabilities, appendAccess)
-		to = appendNumberOf(to, "limit", command.Limit)
-		to = appendTextOf(to, "name", command.Name)
-		to = append(appendNumberOf(to, "required", command.Required), '}')
+		to = appendList(appendKey(append(to, '{'), `"capabilities":`), capabilities, appendAccess)
+		to = appendNumberOf(to, `"limit":`, command.Limit)
+		to = appendTextOf(to, `"name":`, command.Name)
+		to = append(appendNumberOf(to, `"required":`, command.Required), '}')
 	case host.Use:
-		to = appendAccess(appendKey(append(to, '{'), "capability"), command.Capability)
-		to = appendTextOf(to, "name", command.Name)
-		to = appendTextOf(to, "node", command.Node)
-		to = appendFlagOf(to, "readonly", command.Readonly)
-		to = append(appendTextOf(to, "target", command.Target), '}')
+		to = appendAccess(appendKey(append(to, '{'), `"capability":`), &command.Capability)
+		to = appendTextOf(to, `"name":`, command.Name)
+		to = appendTextOf(to, `"node":`, command.Node)
+		to = appendFlagOf(to, `"readonly":`, command.Readonly)
+		to = append(appendTextOf(to, `"target":`, command.Target), '}')
 	case host.Stop:
-		to = appendTextOf(append(to, '{'), "name", command.Name)
-		to = appendTextOf(to, "node", command.Node)
-		to = append(appendTextOf(to, "target", command.Target), '}')
+		to = appendTextOf(append(to, '{'), `"name":`, command.Name)
+		to = appendTextOf(to, `"node":`, command.Node)
+		to = append(appendTextOf(to, `"target":`, command.Target), '}')
 	default:
 		to = appendText(to, command.Name)
 	}
-	return key, append(to, '}')
+	return append(to, '}')
 }
 
 var commandNames = [...]string{host.Create: "create", host.Use: "use", host.Stop: "stop", host.Delete: "delete"}

@@ -3,7 +3,9 @@ package history
 import (
 	"encoding/json"
 	"math/rand"
+	"reflect"
 	"testing"
+	"time"
 
 	"tufayon/service/frames"
 	"tufayon/service/host"
@@ -59,7 +61,16 @@ func (it drawing) row() *records.Row {
 	return row
 }
 
-// What is written of an entry is what encoding/json says of it, whatever stands in it.
+// readBack is what is read of a line.
+func readBack(t *testing.T, line []byte) (entry Entry) {
+	t.Helper()
+	if err := json.Unmarshal(line, &entry); err != nil {
+		t.Fatalf("%s: %v", line, err)
+	}
+	return entry
+}
+
+// What is written of an entry is read as what encoding/json says of it, whatever stands in it.
 func TestEntries(t *testing.T) {
 	it := drawing{rand.New(rand.NewSource(1))}
 	whats := []string{reply, none, timeout, session, lose, "create", "use"}
@@ -78,7 +89,7 @@ func TestEntries(t *testing.T) {
 			entry.Rows, entry.Nodes = map[string]*records.Row{"v": it.row(), "w": nil}, []string{"n1"}
 		}
 		want, err := json.Marshal(&entry)
-		if got := appendEntry(nil, &entry); err != nil || string(got) != string(want) {
+		if got := appendEntry(nil, &entry); err != nil || !reflect.DeepEqual(readBack(t, got), readBack(t, want)) {
 			t.Fatalf("%+v is written as\n%s, not\n%s, %v", entry, got, want, err)
 		}
 	}
@@ -98,8 +109,44 @@ func TestEvents(t *testing.T) {
 		`{"stop":{"name":"v","node":"n1","target":"/a"}}`: {Kind: host.Stop, Name: "v", Node: "n1", Target: "/a"},
 		`{"delete":"v"}`: {Kind: host.Delete, Name: "v"},
 	} {
-		if _, event := eventOf(command); string(event) != want {
+		command := command
+		if event := appendEvent(nil, &command); string(event) != want {
 			t.Errorf("%+v is %s, not %s", command, event, want)
+		}
+	}
+}
+
+// What is written of something that happened is what is written of its entry.
+func TestHappenings(t *testing.T) {
+	it, names := drawing{rand.New(rand.NewSource(2))}, plugins{}
+	call := func() frames.Call {
+		number := frames.Number{Session: it.Uint64(), Call: it.Uint64()}
+		if it.Intn(2) == 0 {
+			return frames.Call{Number: number, Body: frames.DeleteVolume{ID: 1}}
+		}
+		return frames.Call{Number: number, Node: it.text(), Body: frames.NodePublishVolume{ID: 1}}
+	}
+	for at := 0; at < 2000; at++ {
+		happened := host.Happening{
+			What: host.What(it.Intn(4)), Time: time.UnixMilli(it.Int63n(1 << 42)), Session: it.Uint64(), Name: it.text(), IsMet: it.Intn(2) == 0,
+			Refusal: host.Refusal(it.Intn(20)), Call: call(), Why: it.text(), Row: it.row(),
+			Reply: frames.Reply{Status: uint8(it.Intn(3)), Volume: uint64(it.Intn(2)), Detail: it.text()},
+			Command: host.Command{
+				Kind: host.Kind(it.Intn(4)), Name: it.text(), Required: it.Uint64(), Capabilities: it.capabilities(), Node: it.text(), Target: it.text(),
+				Capability: it.capability(), Readonly: it.Intn(2) == 0,
+			},
+		}
+		if it.Intn(2) == 0 {
+			sent := call()
+			happened.Sent = &sent
+		}
+		if it.Intn(4) == 0 {
+			happened.Row = nil
+		}
+		var entry Entry
+		names.keepIn(&entry, &happened)
+		if got, want := names.appendHappening(nil, &happened), appendLine(nil, &entry); string(got) != string(want) {
+			t.Fatalf("%+v is written as\n%s, not\n%s", happened, got, want)
 		}
 	}
 }

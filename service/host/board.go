@@ -21,15 +21,32 @@ type board struct {
 	session  uint64
 	count    uint64 // of the events since this process serves
 	nodes    []string
-	volumes  map[string]Volume
+	volumes  map[string]posted
+	freed    []freed           // names that became free last
+	unknown  uint64            // up to this count of events some that became free aren't known any more
 	troubles map[string]string // why plugins haven't begun the session, by their names
 	heard    map[string]frames.Number
 	watchers map[*Watching]bool
 	isClosed bool
 }
 
+// A posted is a volume, and the count of the event that changed it last.
+type posted struct {
+	Volume
+	count uint64
+}
+
+// A freed is a name, and the count of the event by which it became free.
+type freed struct {
+	name  string
+	count uint64
+}
+
+// mostFreed is how many names are known at least that became free.
+const mostFreed = 4096
+
 func newBoard() *board {
-	return &board{volumes: map[string]Volume{}, troubles: map[string]string{}, heard: map[string]frames.Number{}, watchers: map[*Watching]bool{}}
+	return &board{volumes: map[string]posted{}, troubles: map[string]string{}, heard: map[string]frames.Number{}, watchers: map[*Watching]bool{}}
 }
 
 // note notes why a plugin hasn't begun the session, or with no text that it has.
@@ -77,19 +94,33 @@ func (host *Host) publish(work *work) {
 	for _, name := range work.forgotten {
 		delete(board.volumes, name)
 		board.tell(name, Event{Forgotten: name})
+		board.free(name)
 	}
 	for name, it := range work.changed {
-		board.volumes[name] = it.shown()
-		board.tell(name, Event{Volume: board.volumes[name]})
+		volume := it.shown()
+		board.tell(name, Event{Volume: volume})
+		board.volumes[name] = posted{volume, board.count}
 	}
 	if work.lost != "" {
 		board.tell("", Event{Lost: work.lost})
 	}
 }
 
+// free notes a name that is free by the last event. The lock is held.
+func (board *board) free(name string) {
+	if len(board.freed) == 2*mostFreed {
+		board.unknown = board.freed[mostFreed-1].count
+		board.freed = append(board.freed[:0], board.freed[mostFreed:]...)
+	}
+	board.freed = append(board.freed, freed{name, board.count})
+}
+
 // tell tells the watchers an event about a name. The lock is held.
 func (board *board) tell(name string, event Event) {
 	board.count++
+	if len(board.watchers) == 0 {
+		return
+	}
 	event.Session, event.Count = board.session, board.count
 	for it := range board.watchers {
 		if it.name != "" && it.name != name {
@@ -140,16 +171,50 @@ func (host *Host) Nodes() []string {
 func (host *Host) Get(name string) (Volume, bool) {
 	host.board.mutex.RLock()
 	defer host.board.mutex.RUnlock()
-	volume, isThere := host.board.volumes[name]
-	return volume, isThere
+	it, isThere := host.board.volumes[name]
+	return it.Volume, isThere
+}
+
+// Changes are what changed behind a count of events.
+type Changes struct {
+	Session, Count uint64
+	Volumes        []Volume // as they are now
+	Forgotten      []string // names that are free
+}
+
+// Changed gives what changed behind a count of events, behind 0 all there is. It isn't known any more of a count of long ago, since which very many names
+// became free.
+func (host *Host) Changed(behind uint64) (changes Changes, isKnown bool) {
+	board := host.board
+	board.mutex.RLock()
+	defer board.mutex.RUnlock()
+	changes.Session, changes.Count = board.session, board.count
+	if behind == board.count && behind > 0 {
+		return changes, true
+	}
+	for _, it := range board.volumes {
+		if it.count > behind || behind == 0 {
+			changes.Volumes = append(changes.Volumes, it.Volume)
+		}
+	}
+	if behind == 0 {
+		return changes, true
+	}
+	for at := len(board.freed) - 1; at >= 0 && board.freed[at].count > behind; at-- {
+		name := board.freed[at].name
+		if _, isThere := board.volumes[name]; !isThere {
+			changes.Forgotten = append(changes.Forgotten, name)
+		}
+	}
+	return changes, behind >= board.unknown
 }
 
 // List gives at most so many volumes behind a name, by their names, byte by byte, that are wanted. `more` says whether there are others behind them.
 func (host *Host) List(after string, most int, isWanted func(Volume) bool) (volumes []Volume, more bool) {
 	host.board.mutex.RLock()
 	for name, volume := range host.board.volumes {
-		if name > after && isWanted(volume) {
-			volumes = append(volumes, volume)
+		if name > after && isWanted(volume.Volume) {
+			volumes = append(volumes, volume.Volume)
 		}
 	}
 	host.board.mutex.RUnlock()
@@ -178,7 +243,7 @@ func (host *Host) Watch(current bool, name string) *Watching {
 	if current {
 		for its, volume := range board.volumes {
 			if name == "" || name == its {
-				it.Current = append(it.Current, Event{Session: board.session, Count: board.count, Volume: volume})
+				it.Current = append(it.Current, Event{Session: board.session, Count: board.count, Volume: volume.Volume})
 			}
 		}
 		sort.Slice(it.Current, func(i, j int) bool { return it.Current[i].Volume.Name < it.Current[j].Volume.Name })

@@ -257,9 +257,14 @@ func (host *Host) call(ctx context.Context, epoch uint64, it *sending) {
 	host.logs(it, reply, err, took) // nobody waits for that
 }
 
+// lines has room for the fields of lines of the log, of which nothing is kept once they are logged.
+var lines = sync.Pool{New: func() any { return new([9]zap.Field) }}
+
 // logs has a line of the log for a call.
 func (host *Host) logs(it *sending, reply frames.Reply, err error, took time.Duration) {
-	fields := append(make([]zap.Field, 0, 9),
+	room := lines.Get().(*[9]zap.Field)
+	defer lines.Put(room)
+	fields := append(room[:0],
 		zap.String("volume", it.name), zap.String("kind", it.call.Kind().String()), zap.String("plugin", carrying.PluginOf(it.call)),
 		zap.Uint64("session", it.call.Number.Session), zap.Uint64("call", it.call.Number.Call), zap.Duration("took", took),
 	)

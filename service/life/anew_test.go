@@ -299,6 +299,9 @@ func TestAnewFails(t *testing.T) {
 		response, err := stream.Recv()
 		machine.must(err)
 		said = response.Trouble
+		if its := response.Unmounted; said == why && (len(its) != 1 || its[0].Volume != 1 || its[0].Why != "/t1: it isn't empty") {
+			t.Errorf("not mounted: %v", its)
+		}
 	}
 	if err := machine.publish("1", "/s1", "/t3", false); status.Code(err) != codes.Unavailable || !strings.Contains(err.Error(), "/t1: it isn't empty") {
 		t.Errorf("published elsewhere: %v", err)
@@ -307,7 +310,7 @@ func TestAnewFails(t *testing.T) {
 	machine.keeps("a")
 	does.fail("/t1", nil)
 	machine.wantsTrouble("")
-	if response, err := stream.Recv(); err != nil || response.Trouble != "" {
+	if response, err := stream.Recv(); err != nil || response.Trouble != "" || len(response.Unmounted) != 0 {
 		t.Errorf("it says %v, %v", response, err)
 	}
 	machine.keeps("b")

@@ -169,11 +169,7 @@ func (made *Driver) Describe(to chan<- *prometheus.Desc) {
 func (made *Driver) Collect(to chan<- prometheus.Metric) {
 	core := made.served()
 	to <- gauge(readyDesc, flag(made.Ready()))
-	if made.Ends != nil {
-		for file, end := range made.Ends() {
-			to <- gauge(driverEndsDesc, float64(end.Unix()), file)
-		}
-	}
+	tellEnds(to, driverEndsDesc, made.Ends)
 	if core == nil {
 		return
 	}

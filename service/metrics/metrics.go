@@ -36,10 +36,10 @@ func newRegistry(program string) *prometheus.Registry {
 	return registry
 }
 
-// handler answers a scrape. What can't be gathered is left out, and counted.
+// handler answers a scrape. What can't be gathered is left out, and counted. It isn't compressed: that would take several times as long as all else.
 func handler(registry *prometheus.Registry) http.Handler {
 	return promhttp.InstrumentMetricHandler(registry, promhttp.HandlerFor(registry, promhttp.HandlerOpts{
-		ErrorHandling: promhttp.ContinueOnError, MaxRequestsInFlight: 4, Timeout: 10 * time.Second,
+		ErrorHandling: promhttp.ContinueOnError, MaxRequestsInFlight: 4, Timeout: 10 * time.Second, DisableCompression: true,
 	}))
 }
 

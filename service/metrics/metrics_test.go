@@ -91,8 +91,10 @@ func TestOrchestrator(t *testing.T) {
 		Plugins: func() map[string]carrying.State {
 			return map[string]carrying.State{"controller": {Connection: "READY", UnderWay: 3}, "node:n1": {Connection: "TRANSIENT_FAILURE", Queued: 4}}
 		},
-		Slots: func() map[string]uint64 { return map[string]uint64{"n1": 8} },
-		Ends:  func() map[string]time.Time { return map[string]time.Time{"c.pem": time.Unix(1000, 0)} },
+		Slots:   func() map[string]uint64 { return map[string]uint64{"n1": 8} },
+		Ends:    func() map[string]time.Time { return map[string]time.Time{"c.pem": time.Unix(1000, 0)} },
+		Servers: func() map[string]time.Time { return map[string]time.Time{"192.0.2.1:2379": time.Unix(2000, 0)} },
+		Clients: func() map[string]time.Time { return map[string]time.Time{"admin": time.Unix(3000, 0)} },
 	})
 	does := func(command host.Command, want error) {
 		t.Helper()
@@ -130,7 +132,8 @@ func TestOrchestrator(t *testing.T) {
 		`tufayon_wanted_oldest_seconds 0`, `tufayon_plugin_connected{plugin="controller"} 1`, `tufayon_plugin_connected{plugin="node:n1"} 0`,
 		`tufayon_plugin_calls_under_way{plugin="controller"} 3`, `tufayon_plugin_calls_queued{plugin="node:n1"} 4`,
 		`tufayon_node_slots{node="n1"} 8`, `tufayon_node_slots_used{node="n1"} 0`, `tufayon_streams_open{of="page"} 2`, `tufayon_streams_open{of="api"} 0`,
-		`tufayon_certificate_expiry_timestamp_seconds{file="c.pem"} 1000`, `tufayon_history_events 7`, `tufayon_commit_failures_total 0`,
+		`tufayon_certificate_expiry_timestamp_seconds{file="c.pem"} 1000`, `tufayon_etcd_certificate_expiry_timestamp_seconds{server="192.0.2.1:2379"} 2000`,
+		`tufayon_client_certificate_expiry_timestamp_seconds{client="admin"} 3000`, `tufayon_history_events 7`, `tufayon_commit_failures_total 0`,
 	)
 }
 

@@ -24,6 +24,8 @@ type Source struct {
 	Plugins func() map[string]carrying.State // how it stands with each plugin
 	Slots   func() map[string]uint64         // how many volumes may be attached to each node
 	Ends    func() map[string]time.Time      // when each certificate ends, by its file
+	Servers func() map[string]time.Time      // when those of etcd's servers end, by their HOST:PORT; may be nil
+	Clients func() map[string]time.Time      // when those end by which clients were here last, by their names; may be nil
 	Lease   time.Duration                    // how long this process leads after etcd heard of it last: 0 where the store is a file
 	Streams func() int                       // of the page that are open
 	History func() (events int, lost uint64) // that are kept
@@ -73,6 +75,8 @@ var (
 	streamsDesc   = describe("", "streams_open", "Streams that are told what happens: of the API and of the page.", "of")
 	sinceDescSec  = describe("", "commit_under_way_seconds", "How long the present commit has taken; 0 where there is none.")
 	endsDesc      = describe("", "certificate_expiry_timestamp_seconds", "When a certificate ends, in Unix seconds.", "file")
+	serversDesc   = describe("", "etcd_certificate_expiry_timestamp_seconds", "When the certificate of a server of etcd ends, in Unix seconds, as it showed it last.", "server")
+	clientsDesc   = describe("", "client_certificate_expiry_timestamp_seconds", "When the certificate ends by which a client was here last, in Unix seconds.", "client")
 	historyDesc   = describe("", "history_events", "Events that the history has.")
 	historyLost   = describe("", "history_lost_events_total", "Events that the history couldn't keep.")
 )
@@ -81,7 +85,7 @@ var (
 func (it *present) Describe(to chan<- *prometheus.Desc) {
 	for _, desc := range []*prometheus.Desc{
 		leaderDesc, sessionDesc, leaseDesc, volumesDesc, wantedDesc, oldestDesc, thingsDesc, slotsDesc, usedDesc, rowsDesc, rowLimitDesc, sinceDesc, connectedDesc,
-		underWayDesc, queuedDesc, waitingDesc, streamsDesc, sinceDescSec, endsDesc, historyDesc, historyLost,
+		underWayDesc, queuedDesc, waitingDesc, streamsDesc, sinceDescSec, endsDesc, serversDesc, clientsDesc, historyDesc, historyLost,
 	} {
 		to <- desc
 	}
@@ -98,9 +102,9 @@ func (it *present) Collect(to chan<- prometheus.Metric) {
 	leads := source.Host()
 	to <- gauge(leaderDesc, flag(leads != nil), source.Set)
 	to <- gauge(leaseDesc, source.Lease.Seconds())
-	for file, end := range source.Ends() {
-		to <- gauge(endsDesc, float64(end.Unix()), file)
-	}
+	tellEnds(to, endsDesc, source.Ends)
+	tellEnds(to, serversDesc, source.Servers)
+	tellEnds(to, clientsDesc, source.Clients)
 	for plugin, state := range source.Plugins() {
 		isUsed := state.IsReached() && (leads == nil || leads.Trouble(plugin) == "")
 		to <- gauge(connectedDesc, flag(isUsed), plugin)
@@ -128,6 +132,16 @@ func (it *present) Collect(to chan<- prometheus.Metric) {
 			to <- gauge(slotsDesc, float64(most), node)
 			to <- gauge(usedDesc, float64(counted.used[node]), node)
 		}
+	}
+}
+
+// tellEnds tells when certificates end.
+func tellEnds(to chan<- prometheus.Metric, desc *prometheus.Desc, ends func() map[string]time.Time) {
+	if ends == nil {
+		return
+	}
+	for of, end := range ends() {
+		to <- gauge(desc, float64(end.Unix()), of)
 	}
 }
 

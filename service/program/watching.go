@@ -27,6 +27,7 @@ type Watch struct {
 	Address string
 	Files   *secure.Files         // over TCP beyond this machine
 	Admit   secure.Admit          // who may ask there
+	Seen    secure.Seen           // is told who did; may be nil
 	May     func(uid uint32) bool // who may at a Unix socket
 	Log     *zap.Logger
 }
@@ -46,7 +47,7 @@ func (watch Watch) Serve(options web.Options) (end func(), err error) {
 			watch.Log.Warn("who would watch is refused", zap.Stringer("from", from), zap.Error(why))
 		}}
 	case !web.IsLoopback(watch.Address):
-		options.TLS = watch.Files.HTTPS(watch.Admit)
+		options.TLS = watch.Files.HTTPS(watch.Admit, watch.Seen)
 	}
 	options.Log = watch.Log
 	server := web.New(options)
@@ -81,6 +82,14 @@ func Ends(place *settings.Place, name secure.Name) func() map[string]time.Time {
 		}
 		return ends
 	}
+}
+
+// ServerEnds tells when the certificates of etcd's servers end, by their HOST:PORT, as they showed them last: nothing where there is no etcd.
+func ServerEnds(place *settings.Place) func() map[string]time.Time {
+	if place.Etcd == nil {
+		return nil
+	}
+	return etcdOf(place.Etcd).ServerEnds().Known
 }
 
 // watchers see each call of a plugin.

@@ -18,9 +18,14 @@ const (
 	ToDelete
 )
 
+var goalNames = [...]string{ToCreate: "create", ToUse: "use", ToStop: "stop", ToDelete: "delete"}
+
 // String is the goal as a command is called: nothing of none.
 func (goal Goal) String() string {
-	return map[Goal]string{ToCreate: "create", ToUse: "use", ToStop: "stop", ToDelete: "delete"}[goal]
+	if int(goal) < len(goalNames) {
+		return goalNames[goal]
+	}
+	return ""
 }
 
 // A Wanted is what an orchestrator's row says of a volume's name, and of what is wanted of it. The fields after Goal are a use's; a stop has the

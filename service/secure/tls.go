@@ -4,16 +4,31 @@ import (
 	"context"
 	"crypto/tls"
 	"crypto/x509"
+	"errors"
+	"io"
 	"net"
 	"sync"
+	"syscall"
 	"time"
 
 	"google.golang.org/grpc/credentials"
 )
 
 // Refused is told of each peer that was refused, and why. By TLS 1.3 a client that is refused sees only a closed connection, so the server has to tell.
-// It may be nil.
+// A client that goes before it said who it is isn't refused. It may be nil.
 type Refused func(from net.Addr, why error)
+
+// Seen is told of each peer that was let in, and when the first certificate ends of those by which it is known. It may be nil.
+type Seen func(peer Name, until time.Time)
+
+func (seen Seen) note(chain []*x509.Certificate) {
+	if seen == nil || len(chain) == 0 {
+		return
+	}
+	if name, err := Named(chain[0]); err == nil {
+		seen(name, endOf(chain))
+	}
+}
 
 // Server gives the credentials of a server that these peers may call.
 func (files Files) Server(admit Admit, refused Refused) credentials.TransportCredentials {
@@ -34,12 +49,41 @@ func (files Files) Server(admit Admit, refused Refused) credentials.TransportCre
 }
 
 // HTTPS is the configuration of a server of HTTP that these peers may ask. It tells nobody who is refused.
-func (files Files) HTTPS(admit Admit) *tls.Config {
+func (files Files) HTTPS(admit Admit, seen Seen) *tls.Config {
+	verify := files.verify(x509.ExtKeyUsageClientAuth, admit)
 	return &tls.Config{
 		MinVersion: tls.VersionTLS13, ClientAuth: tls.RequestClientCert, SessionTicketsDisabled: true,
-		GetCertificate:   func(*tls.ClientHelloInfo) (*tls.Certificate, error) { return files.own() },
-		VerifyConnection: files.verify(x509.ExtKeyUsageClientAuth, admit),
+		GetCertificate: func(*tls.ClientHelloInfo) (*tls.Certificate, error) { return files.own() },
+		VerifyConnection: func(state tls.ConnectionState) error {
+			if err := verify(state); err != nil {
+				return err
+			}
+			seen.note(state.PeerCertificates)
+			return nil
+		},
 	}
+}
+
+// Seeing are a server's credentials that tell who was let in.
+func Seeing(known credentials.TransportCredentials, seen Seen) credentials.TransportCredentials {
+	return seeing{known, seen}
+}
+
+type seeing struct {
+	credentials.TransportCredentials
+	seen Seen
+}
+
+func (it seeing) ServerHandshake(raw net.Conn) (net.Conn, credentials.AuthInfo, error) {
+	secured, info, err := it.TransportCredentials.ServerHandshake(raw)
+	if by, ok := info.(credentials.TLSInfo); ok && err == nil {
+		it.seen.note(by.State.PeerCertificates)
+	}
+	return secured, info, err
+}
+
+func (it seeing) Clone() credentials.TransportCredentials {
+	return seeing{it.TransportCredentials.Clone(), it.seen}
 }
 
 // Client gives the credentials of a client that speaks to one peer, whatever its address.
@@ -72,7 +116,15 @@ type named struct {
 
 func (it named) ServerHandshake(raw net.Conn) (net.Conn, credentials.AuthInfo, error) {
 	secured, info, err := it.TransportCredentials.ServerHandshake(raw)
+	if isGone(err) {
+		return nil, nil, err
+	}
 	return it.shaken(raw, secured, info, err)
+}
+
+// isGone says whether a client went before it said who it is, as one does that only looks who listens, or that has reached another server meanwhile.
+func isGone(err error) bool {
+	return errors.Is(err, io.EOF) || errors.Is(err, syscall.ECONNRESET) || errors.Is(err, syscall.EPIPE)
 }
 
 func (it named) ClientHandshake(ctx context.Context, authority string, raw net.Conn) (net.Conn, credentials.AuthInfo, error) {

@@ -5,13 +5,14 @@ import (
 	"encoding/json"
 	"net/http"
 	"reflect"
+	"sort"
 	"time"
 
 	"tufayon/service/host"
 )
 
 const (
-	together    = 100 * time.Millisecond // so long changes are gathered
+	together    = 200 * time.Millisecond // so long changes are gathered
 	beat        = time.Second            // how often plugins are looked at
 	mostSilent  = 5 * time.Second        // and told, with the time, at the latest
 	mostVolumes = 512                    // in one message
@@ -28,6 +29,7 @@ type stream struct {
 
 	told   []plugin  // the last ones
 	when   time.Time // that was
+	count  uint64    // of the host's events, up to which changes were told
 	behind uint64    // entries
 }
 
@@ -114,98 +116,83 @@ func sleep(ctx context.Context, long time.Duration) {
 	}
 }
 
-// follow tells all, and then what changes, until the host ends, or this page was too slow.
+// follow tells all, and then what changes, until the host ends. It looks for that by itself, so that nothing that happens is kept up by it.
 func (it *stream) follow(ctx context.Context, leads *host.Host) {
-	watching := leads.Watch(true, "")
-	defer watching.End()
-	it.begins(leads, watching.Current)
-	watching.Current = nil
-	tick := time.NewTicker(beat)
+	it.begins(leads)
+	tick := time.NewTicker(together)
 	defer tick.Stop()
-	for it.err == nil {
-		_, _, more := it.source.History.Last("", 0, it.behind)
+	for looked := time.Now(); it.err == nil; {
 		select {
-		case event, isOne := <-watching.Events():
-			if !isOne {
-				sleep(ctx, together) // a host that ended is told as gone soon
-				return
-			}
-			sleep(ctx, together)
-			it.changes(leads, watching, event)
-		case <-more:
-			sleep(ctx, together)
-			it.sendEntries()
 		case <-tick.C:
-			it.plugins(leads)
+		case <-leads.Done():
+			sleep(ctx, together) // a host that ended is told as gone soon
+			return
 		case <-ctx.Done():
 			return
+		}
+		if !it.changes(leads) {
+			return
+		}
+		if time.Since(looked) >= beat {
+			looked = time.Now()
+			it.plugins(leads)
 		}
 	}
 }
 
 // begins tells all there is.
-func (it *stream) begins(leads *host.Host, current []host.Event) {
-	it.behind, it.told = 0, nil
-	it.send(message{Begin: it.begin(true, len(current)), Session: leads.Session()})
+func (it *stream) begins(leads *host.Host) {
+	present, _ := leads.Changed(0)
+	it.behind, it.told, it.count = 0, nil, present.Count
+	it.send(message{Begin: it.begin(true, len(present.Volumes)), Session: present.Session})
 	it.plugins(leads)
-	volumes := make([]volume, 0, mostVolumes)
-	for at := range current {
-		volumes = append(volumes, volumeOf(current[at].Volume))
-		if len(volumes) == mostVolumes {
-			it.send(message{Volumes: volumes})
-			volumes = volumes[:0]
-		}
+	sort.Slice(present.Volumes, func(i, j int) bool { return present.Volumes[i].Name < present.Volumes[j].Name })
+	rest := it.sendMost(present.Volumes)
+	it.send(message{Volumes: volumesOf(rest), IsWhole: true})
+	if entries := it.entries(); len(entries) > 0 {
+		it.send(message{Entries: entries})
 	}
-	it.send(message{Volumes: volumes, IsWhole: true})
-	it.sendEntries()
 }
 
-// changes tells an event, and what has come since: of each volume as it is now.
-func (it *stream) changes(leads *host.Host, watching *host.Watching, first host.Event) {
-	changed, forgotten := map[string]host.Volume{}, map[string]bool{}
-	take := func(event host.Event) {
-		switch {
-		case event.Forgotten != "":
-			delete(changed, event.Forgotten)
-			forgotten[event.Forgotten] = true
-		case event.Lost == "":
-			changed[event.Volume.Name] = event.Volume
-			delete(forgotten, event.Volume.Name)
-		}
+// sendMost sends volumes, but for the last ones, which go into one message with something else.
+func (it *stream) sendMost(volumes []host.Volume) (rest []host.Volume) {
+	for ; len(volumes) > mostVolumes; volumes = volumes[mostVolumes:] {
+		it.send(message{Volumes: volumesOf(volumes[:mostVolumes])})
 	}
-	take(first)
-	for isMore := true; isMore && len(changed) < mostVolumes; {
-		select {
-		case event, isOne := <-watching.Events():
-			if isMore = isOne; isOne {
-				take(event)
-			}
-		default:
-			isMore = false
-		}
-	}
-	told := message{Session: leads.Session()}
-	for _, it := range changed {
-		told.Volumes = append(told.Volumes, volumeOf(it))
-	}
-	for name := range forgotten {
-		told.Forgotten = append(told.Forgotten, name)
-	}
-	it.send(told)
+	return volumes
 }
 
-// sendEntries tells what happened since the last time.
-func (it *stream) sendEntries() {
+func volumesOf(all []host.Volume) []volume {
+	made := make([]volume, 0, len(all))
+	for _, it := range all {
+		made = append(made, volumeOf(it))
+	}
+	return made
+}
+
+// changes tells what has changed since the last time, and what happened. It says whether that is known: else all is to be told anew.
+func (it *stream) changes(leads *host.Host) bool {
+	changes, isKnown := leads.Changed(it.count)
+	if !isKnown {
+		return false
+	}
+	it.count = changes.Count
+	told := message{Volumes: volumesOf(it.sendMost(changes.Volumes)), Forgotten: changes.Forgotten, Entries: it.entries()}
+	if len(told.Volumes)+len(told.Forgotten)+len(told.Entries) > 0 {
+		told.Session = changes.Session
+		it.send(told)
+	}
+	return true
+}
+
+// entries are what happened since the last time, of which only the last ones are shown.
+func (it *stream) entries() (entries []entry) {
 	last, count, _ := it.source.History.Last("", mostEntries, it.behind)
 	it.behind = count
-	if len(last) == 0 {
-		return
-	}
-	var entries []entry
 	for at := range last {
 		entries = append(entries, entryOf(&last[at]))
 	}
-	it.send(message{Entries: entries})
+	return entries
 }
 
 // plugins tells how it stands with them, where that changed, or it was told long ago.

@@ -3,6 +3,7 @@ package carryingtest
 
 import (
 	"context"
+	"fmt"
 	"net"
 	"strconv"
 	"strings"
@@ -30,7 +31,8 @@ type Plugin struct {
 	Judge func(ctx context.Context, call string) (err error, isReply bool)
 	// Silent sets no trailer with an OK.
 	Silent bool
-	// Troubles are what it says that isn't as its record has it, one after another: nil of one that says nothing of that.
+	// Troubles are what it says that isn't as its record has it, one after another: nil of one that says nothing of that. By "volume N isn't mounted" it
+	// says so of that volume.
 	Troubles chan string
 	Confirms func(heard frames.Number) error // asked for with each of these, where it isn't nil
 
@@ -120,7 +122,12 @@ func (it *telling) Troubles(_ *told.TroublesRequest, stream told.Plugin_Troubles
 	for {
 		select {
 		case text := <-it.plugin.Troubles:
-			if err := stream.Send(&told.TroublesResponse{Trouble: text, Asks: it.plugin.Confirms != nil}); err != nil {
+			response := &told.TroublesResponse{Trouble: text, Asks: it.plugin.Confirms != nil}
+			var volume uint64
+			if _, err := fmt.Sscanf(text, "volume %d isn't mounted", &volume); err == nil {
+				response.Unmounted = []*told.Unmounted{{Volume: volume, Why: "there is no device"}}
+			}
+			if err := stream.Send(response); err != nil {
 				return err
 			}
 		case <-stream.Context().Done():

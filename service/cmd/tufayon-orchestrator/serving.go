@@ -36,6 +36,7 @@ type service struct {
 	carrier  *carrying.Carrier
 	host     *host.Host
 	roles    *api.Roles
+	clients  *clients
 	server   *api.Server
 	grpc     *grpc.Server
 	watching *watching
@@ -48,6 +49,7 @@ func serve(ctx context.Context, read *settings.Settings, log *zap.Logger) error 
 	signal.Notify(anew, syscall.SIGHUP)
 	defer signal.Stop(anew)
 	running := &service{settings: read, log: log, roles: &api.Roles{}, anew: anew}
+	running.clients = &clients{roles: running.roles, of: map[string]time.Time{}}
 	running.roles.Set(read.Roles(os.Geteuid()))
 	if err := running.connect(); err != nil {
 		return err
@@ -147,7 +149,7 @@ func (running *service) credentials() credentials.TransportCredentials {
 	if carrying.IsLocal(running.settings.Process.Listen) {
 		return secure.Local{May: running.roles.MayConnect, Refused: refused}
 	}
-	return running.settings.Process.Files().Server(secure.Those(running.settings.Set.Name, secure.Client), refused)
+	return secure.Seeing(running.settings.Process.Files().Server(secure.Those(running.settings.Set.Name, secure.Client), refused), running.clients.seen)
 }
 
 // wait serves until the process is to end, or can't go on, and reads the files anew at SIGHUP.

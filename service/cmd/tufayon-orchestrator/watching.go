@@ -47,7 +47,7 @@ func (running *service) watch() (*watching, error) {
 	})
 	source := metrics.Source{
 		Set: read.Set.Name, Host: made.host, Plugins: running.carrier.States, Slots: made.slots, Ends: program.Ends(&read.Process.Place, read.Name()),
-		Streams: made.page.Streams, History: made.history.Count,
+		Servers: program.ServerEnds(&read.Process.Place), Clients: running.clients.ends, Streams: made.page.Streams, History: made.history.Count,
 	}
 	if read.Process.Etcd != nil {
 		source.Lease = time.Duration(read.Process.Etcd.Lease) * time.Second
@@ -64,6 +64,7 @@ func (running *service) watch() (*watching, error) {
 			}
 			return nil
 		},
+		Seen: running.clients.seen,
 	}.Serve(web.Options{Metrics: made.metrics.Handler(), Ready: func() bool { return made.host() != nil }, Page: made.page})
 	if err != nil {
 		made.history.Close()

@@ -110,7 +110,7 @@ func (ctl *ctl) create() *cobra.Command {
 		if request.Limit, err = bytesOf("limit", limit); err != nil {
 			return err
 		}
-		return ctl.answered(ctx, client, words[0], func() (*wire.Volume, error) { return client.Create(ctx, request) })
+		return ctl.answered(ctx, client, words[0], "", func() (*wire.Volume, error) { return client.Create(ctx, request) })
 	})
 	command.Flags().StringVar(&required, "size", "1G", "at least so many bytes")
 	command.Flags().StringVar(&limit, "limit", "0", "at most so many bytes (0: any)")
@@ -128,7 +128,7 @@ func (ctl *ctl) use() *cobra.Command {
 				return err
 			}
 			request := &wire.UseRequest{Name: words[0], Node: words[1], Target: words[2], Capability: capability, Readonly: isReadonly, Wait: ctl.wait()}
-			return ctl.answered(ctx, client, words[0], func() (*wire.Volume, error) { return client.Use(ctx, request) })
+			return ctl.answered(ctx, client, words[0], words[1], func() (*wire.Volume, error) { return client.Use(ctx, request) })
 		})
 	command.Aliases = []string{"publish"}
 	command.Flags().BoolVar(&isReadonly, "readonly", false, "for reading only")
@@ -140,7 +140,7 @@ func (ctl *ctl) stop() *cobra.Command {
 	command := ctl.asked("stop NAME NODE TARGET", "ends the use of a volume at a target path of a node", 3,
 		func(ctx context.Context, client wire.OrchestratorClient, words []string) error {
 			request := &wire.StopRequest{Name: words[0], Node: words[1], Target: words[2], Wait: ctl.wait()}
-			return ctl.answered(ctx, client, words[0], func() (*wire.Volume, error) { return client.Stop(ctx, request) })
+			return ctl.answered(ctx, client, words[0], "", func() (*wire.Volume, error) { return client.Stop(ctx, request) })
 		})
 	command.Aliases = []string{"unpublish"}
 	return ctl.waiting(command)
@@ -149,7 +149,7 @@ func (ctl *ctl) stop() *cobra.Command {
 func (ctl *ctl) delete() *cobra.Command {
 	return ctl.waiting(ctl.asked("delete NAME", "deletes a volume", 1, func(ctx context.Context, client wire.OrchestratorClient, words []string) error {
 		request := &wire.DeleteRequest{Name: words[0], Wait: ctl.wait()}
-		return ctl.answered(ctx, client, words[0], func() (*wire.Volume, error) { return client.Delete(ctx, request) })
+		return ctl.answered(ctx, client, words[0], "", func() (*wire.Volume, error) { return client.Delete(ctx, request) })
 	}))
 }
 

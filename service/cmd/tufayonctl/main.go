@@ -33,10 +33,14 @@ const (
 	refused  = 1 // nothing was changed; or of --wait, what was asked for didn't come to be
 	usage    = 2
 	notKnown = 3 // the service isn't reached, or it isn't known what became of the command
+	isNot    = 4 // the volume is in use there, as the record says, and the node says that it isn't mounted
 )
 
 // errUndone says that a volume came to rest, and what was asked for isn't so.
 var errUndone = errors.New("it was given up")
+
+// errUnmounted says that a volume is in use at a node, and isn't mounted there.
+var errUnmounted = errors.New("it isn't mounted")
 
 // errNothing says that the history has nothing of a volume.
 var errNothing = errors.New("nothing is known of it")
@@ -71,6 +75,9 @@ func codeOf(err error) int {
 	}
 	if errors.Is(err, errUndone) || errors.Is(err, errNothing) {
 		return refused
+	}
+	if errors.Is(err, errUnmounted) {
+		return isNot
 	}
 	its, ok := status.FromError(err)
 	if !ok {

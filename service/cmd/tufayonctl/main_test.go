@@ -27,8 +27,11 @@ type plugins map[string]carrying.State
 
 func (it plugins) States() map[string]carrying.State { return it }
 
-// serve serves a new orchestrator of a node, of which a carrier answers the calls, and gives its address.
-func serve(t *testing.T, carrier host.Carrier) string {
+// Unmounted says of a node that says anything of itself that no volume is mounted there.
+func (it plugins) Unmounted(node string, _ uint64) string { return it[carrying.NodeName(node)].Amiss }
+
+// serve serves a new orchestrator of a node, of which a carrier answers the calls, and gives its address. It may be told how it stands with the node.
+func serve(t *testing.T, carrier host.Carrier, more ...carrying.State) string {
 	t.Helper()
 	kept, err := history.Open("", history.Usual, zap.NewNop())
 	if err != nil {
@@ -49,6 +52,9 @@ func serve(t *testing.T, carrier host.Carrier) string {
 	roles := &api.Roles{}
 	roles.Set(nil, map[uint32]api.Role{uint32(os.Geteuid()): api.Loses})
 	states := plugins{carrying.Controller: {Address: "unix:///c", Connection: "READY"}, "node:n1": {Address: "unix:///n1", Connection: "CONNECTING"}}
+	for _, it := range more {
+		states["node:n1"] = it
+	}
 	leading, server := api.New(states, nil, roles, secure.Local{May: roles.MayConnect}, zap.NewNop())
 	leading.Lead(made)
 	leading.Keep(kept)
@@ -103,6 +109,18 @@ func TestWords(t *testing.T) {
 	says(t, address, "lose|n1", 2, `--promise "off for good, and its store never comes back"`)
 	says(t, address, "lose|n1|--promise|"+terms.Promise, 0, "n1 is lost", "session 3")
 	says(t, address, "watch|--current|--timeout|50ms", 3, "DeadlineExceeded")
+}
+
+// A use of what is so already, at a node that hasn't mounted it, says so, and ends otherwise; what else is asked goes on.
+func TestUnmounted(t *testing.T) {
+	address := serve(t, &hosttest.Carrier{}, carrying.State{Address: "unix:///n1", Connection: "READY", Amiss: "there is no device"})
+	says(t, address, "create|v|--block|--wait", 0, "yes")
+	says(t, address, "use|v|n1|/a|--block|--wait", 4, "n1:/a (not mounted)", "tufayonctl: v: it isn't mounted at n1: there is no device")
+	says(t, address, "use|v|n1|/a|--block", 4, "n1:/a (not mounted)", "there is no device")
+	says(t, address, "use|v|n1|/a|--block|--json", 4, `"met":true`, `"reached":false`, `"unmounted":"there is no device"`)
+	says(t, address, "get|v", 0, "n1:/a (not mounted)")
+	says(t, address, "stop|v|n1|/a|--wait", 0, "yes")
+	says(t, address, "delete|v|--wait", 0, "no")
 }
 
 // What happened, as lines and as a schedule; and a picture of it, where csi-replay is there.

@@ -31,7 +31,8 @@ func (ctl *ctl) print(answer proto.Message, asTable func()) error {
 }
 
 // answered has a command carried out, and prints what it came to. With --wait it tells what is going on meanwhile, and fails where it was given up.
-func (ctl *ctl) answered(ctx context.Context, client wire.OrchestratorClient, name string, ask func() (*wire.Volume, error)) error {
+// Of a use at a node it fails too where the node, whose machine was started again, hasn't mounted it.
+func (ctl *ctl) answered(ctx context.Context, client wire.OrchestratorClient, name, node string, ask func() (*wire.Volume, error)) error {
 	end := ctl.follow(ctx, client, name)
 	volume, err := ask()
 	end()
@@ -41,10 +42,23 @@ func (ctl *ctl) answered(ctx context.Context, client wire.OrchestratorClient, na
 	if err := ctl.print(volume, func() { ctl.volume(volume) }); err != nil {
 		return err
 	}
+	if why := unmounted(volume, node); why != "" {
+		return fmt.Errorf("%s: %w at %s: %s", name, errUnmounted, node, why)
+	}
 	if ctl.waits && !volume.Reached {
 		return fmt.Errorf("%s: %w: %s", name, errUndone, volume.Trouble)
 	}
 	return nil
+}
+
+// unmounted is why a volume that is in use at a node isn't mounted there.
+func unmounted(volume *wire.Volume, node string) string {
+	for _, at := range volume.At {
+		if at.Node == node && len(at.Targets) > 0 && volume.Goal == "" {
+			return at.Unmounted
+		}
+	}
+	return ""
 }
 
 // follow tells what is going on with a volume, on standard error, until its end is asked for.
@@ -121,7 +135,8 @@ func (ctl *ctl) volumes(volumes []*wire.Volume) {
 
 func known(it wire.Known) string { return strings.ToLower(it.String()) }
 
-// places are where a volume is used: node:target, with a question mark where that may be, or is only attached.
+// places are where a volume is used: node:target, with a question mark where that may be, or is only attached, and a remark where the node says that it
+// isn't mounted.
 func places(all []*wire.At) string {
 	var texts []string
 	for _, at := range all {
@@ -132,6 +147,9 @@ func places(all []*wire.At) string {
 			text := at.Node + ":" + it.Path
 			if it.Published != wire.Known_YES {
 				text += "?"
+			}
+			if at.Unmounted != "" {
+				text += " (not mounted)"
 			}
 			texts = append(texts, text)
 		}

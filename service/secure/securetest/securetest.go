@@ -9,6 +9,7 @@ import (
 	"crypto/x509/pkix"
 	"encoding/pem"
 	"math/big"
+	"net"
 	"net/url"
 	"os"
 	"path/filepath"
@@ -56,12 +57,12 @@ func NewAuthority(t testing.TB) *Authority {
 	return &Authority{certificate: certificate, key: key, bytes: bytes}
 }
 
-// Issue puts a certificate of these URIs, for so long from an hour ago on, into a folder, with its key and this authority.
+// Issue puts a certificate of these URIs, and of a server on loopback, for so long from an hour ago on, into a folder, with its key and this authority.
 func (authority *Authority) Issue(t testing.TB, folder string, until time.Time, uris ...string) secure.Files {
 	t.Helper()
 	template := &x509.Certificate{
 		SerialNumber: big.NewInt(time.Now().UnixNano()), Subject: pkix.Name{CommonName: "a peer"}, NotBefore: time.Now().Add(-time.Hour), NotAfter: until,
-		ExtKeyUsage: []x509.ExtKeyUsage{x509.ExtKeyUsageClientAuth, x509.ExtKeyUsageServerAuth},
+		ExtKeyUsage: []x509.ExtKeyUsage{x509.ExtKeyUsageClientAuth, x509.ExtKeyUsageServerAuth}, IPAddresses: []net.IP{net.IPv4(127, 0, 0, 1)},
 	}
 	for _, it := range uris {
 		uri, err := url.Parse(it)

@@ -1,0 +1,87 @@
+package history
+
+import (
+	"fmt"
+	"path/filepath"
+	"reflect"
+	"testing"
+	"time"
+
+	"go.uber.org/zap"
+
+	"tufayon/service/frames"
+	"tufayon/service/host"
+	"tufayon/service/records"
+)
+
+// Entries that are packed, and the base behind those that went, say what they said before, in memory and in a file that is read again; and so do those that
+// were left out of schedules.
+func TestPacked(t *testing.T) {
+	const most, names = 100, 7
+	path := filepath.Join(t.TempDir(), "history")
+	made, err := Open(path, most, zap.NewNop())
+	if err != nil {
+		t.Fatal(err)
+	}
+	row := func(name string, at int) *records.Row {
+		return &records.Row{Wanted: records.Wanted{Name: name, Required: uint64(at), Capabilities: []frames.Capability{block}}, ID: 1, Exists: records.Yes}
+	}
+	rows := map[string]*records.Row{}
+	made.keep([][]host.Happening{{{What: host.Began, Time: time.UnixMilli(1), Session: 1, Why: "it starts", Nodes: []string{"n1"}}}})
+	var want []Entry
+	for at := 0; at < 1000; at++ {
+		it := host.Happening{What: host.TimedOut, Time: time.UnixMilli(int64(at)), Session: 1, Name: fmt.Sprint("v", at%names)}
+		it.Before = rows[it.Name]
+		rows[it.Name] = row(it.Name, at)
+		it.Row = rows[it.Name]
+		made.keep([][]host.Happening{{it}})
+		var entry Entry
+		made.plugins.keepIn(&entry, &it)
+		want = append(want, entry)
+	}
+	check := func(what string, made *History) {
+		t.Helper()
+		last, count, _ := made.Last("", 2*most, 0)
+		if !reflect.DeepEqual(last, want[len(want)-most:]) || count != 1001 {
+			t.Errorf("%s: of %d, the last are %+v", what, count, last)
+		}
+		if last, _, _ = made.Last("", 5, 1001-30); len(last) != 5 || !reflect.DeepEqual(last[4], want[999]) {
+			t.Errorf("%s: the last five are %+v", what, last)
+		}
+		if last, _, _ = made.Last("v3", 2, 0); len(last) != 2 || last[0].Name != "v3" || last[1].Name != "v3" || last[0].Time != last[1].Time-names {
+			t.Errorf("%s: the last two of one are %+v", what, last)
+		}
+		base := made.settled()
+		for name := 0; name < names; name++ {
+			its := fmt.Sprint("v", name)
+			for at := len(want) - most - 1; ; at-- {
+				if want[at].Name == its {
+					if !reflect.DeepEqual(base.Rows[its], want[at].Row) {
+						t.Errorf("%s: before the first, %s is %+v, not %+v", what, its, base.Rows[its], want[at].Row)
+					}
+					break
+				}
+			}
+		}
+	}
+	check("in memory", made)
+	made.cut(map[string]*records.Row{"v3": nil})
+	for at := range want {
+		want[at].IsCut = want[at].Name == "v3"
+	}
+	if last, _, _ := made.Last("", 2*most, 0); !reflect.DeepEqual(last, want[len(want)-most:]) || made.settled().Rows["v3"] != nil {
+		t.Errorf("one left out: %+v", last)
+	}
+	made.save()
+	if err := made.Close(); err != nil {
+		t.Fatal(err)
+	}
+	again, err := Open(path, most, zap.NewNop())
+	if err != nil {
+		t.Fatal(err)
+	}
+	defer again.Close()
+	if last, count, _ := again.Last("", 2*most, 0); !reflect.DeepEqual(last, want[len(want)-most:]) || count != 1001 {
+		t.Errorf("read again: of %d, %+v", count, last)
+	}
+}
