@@ -1,7 +1,10 @@
 """Which files each package has to have, beside what Debian asks for in each."""
 import glob
+import gzip
+import io
 import os
 import subprocess
+import tarfile
 
 TOP = os.path.dirname(os.path.dirname(os.path.dirname(os.path.realpath(__file__))))
 FORMATS = ("FORMATS", "FRAMES", "RECORDS", "LINES", "DRIVER", "SERVICE")
@@ -28,6 +31,9 @@ CONTENTS = {
     },
 }
 
+# What of each package others' code is linked into.
+LINKED = {"tufayon": {"csi-replay"}, "libtufayon-dev": {"libtufayon.a"}, "tufayon-service": {*(f"tufayon-{it}" for it in PARTS), "tufayonctl"}}
+
 
 def files_of(package):
     """The files of a package, without what each has to have: what says who may copy it, and what is new."""
@@ -39,3 +45,11 @@ def files_of(package):
         if path and not path.endswith("/") and not (folder.startswith("usr/share/doc/") and name.split(".")[0] in ("copyright", "changelog", "THIRD-PARTIES")):
             found.add(path)
     return {it.removesuffix(".gz") if it.startswith("usr/share/doc/") else it for it in found}
+
+
+def parties_of(package, name):
+    """What a package of this name says of its licence, and of what of others is linked into its programs."""
+    packed = subprocess.run(["dpkg-deb", "--fsys-tarfile", package], stdout=subprocess.PIPE, check=True).stdout
+    with tarfile.open(fileobj=io.BytesIO(packed)) as files:
+        licence, parties = (files.extractfile(f"./usr/share/doc/{name}/{it}").read() for it in ("copyright", "THIRD-PARTIES.gz"))
+    return licence.decode(), gzip.decompress(parties).decode()
