@@ -338,7 +338,7 @@ export ETCDCTL_CACERT=/etc/etcd/ca.pem ETCDCTL_CERT=/etc/etcd/cert.pem ETCDCTL_K
 def replace(system, number):
     """A machine with an orchestrator, a member of etcd and a node is gone with its disk. Another one in its place gets its files, and joins."""
     machine = system[number]
-    _, files = machine("cd /root && umask 077 && tar -C / -czf files.tgz etc/tufayon/s1 etc/etcd etc/default/etcd && base64 -w 0 files.tgz")
+    _, files = machine("cd /root; (umask 077 && tar -C / -czf files.tgz etc/tufayon/s1 etc/etcd etc/default/etcd) && base64 -w 0 files.tgz")
     machine.kill()
     soon("another leads", lambda: system.ask("list", check=False)[0] == 0)
     session = lost(system, number)
