@@ -22,7 +22,7 @@ CONTENTS = {
         *(f"usr/share/doc/libtufayon-dev/examples/{it}" for it in EMBED),
     },
     "tufayon-service": {
-        *(f"usr/bin/tufayon-{it}" for it in (*PARTS, "certificates", "demo")), "usr/bin/tufayonctl",
+        *(f"usr/bin/tufayon-{it}" for it in (*PARTS, "certificates", "demo")), "usr/bin/tufayonctl", "usr/bin/csi-driver",
         *(f"lib/systemd/system/tufayon-{it}@.service" for it in PARTS), "usr/lib/sysusers.d/tufayon-service.conf", "usr/lib/tmpfiles.d/tufayon-service.conf",
         *(f"etc/tufayon/example/{it}.json" for it in (*PARTS, "set")),
         "usr/share/bash-completion/completions/tufayonctl", "usr/share/zsh/vendor-completions/_tufayonctl", "usr/share/fish/vendor_completions.d/tufayonctl.fish",
@@ -32,7 +32,7 @@ CONTENTS = {
 }
 
 # What of each package others' code is linked into.
-LINKED = {"tufayon": {"csi-replay"}, "libtufayon-dev": {"libtufayon.a"}, "tufayon-service": {*(f"tufayon-{it}" for it in PARTS), "tufayonctl"}}
+LINKED = {"tufayon": {"csi-replay"}, "libtufayon-dev": {"libtufayon.a"}, "tufayon-service": {*(f"tufayon-{it}" for it in PARTS), "tufayonctl", "csi-driver"}}
 
 
 def files_of(package):

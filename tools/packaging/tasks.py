@@ -72,7 +72,7 @@ def starts_nothing(machine):
 
 def programs(machine):
     """What needs no set: the program, its audit, the demonstration, the library's file for pkg-config, and what tufayonctl is linked with."""
-    machine("csi-replay --version && test -f /usr/share/man/man1/csi-replay.1.gz")
+    machine("csi-replay --version && csi-driver --version && test -f /usr/share/man/man1/csi-replay.1.gz")
     machine("printf '%s' '{\"greatest\":1000,\"nodes\":[]}' > /tmp/config && csi-replay controller /tmp/c.db /tmp/config < /dev/null && "
             "csi-replay record /tmp/c.db | tufayon-audit | grep -qx 'nothing found'")
     machine("cd /packages/old && apt-get install -y ./libtufayon-dev*.deb && grep -q '^Version: ' /usr/lib/x86_64-linux-gnu/pkgconfig/tufayon.pc")
