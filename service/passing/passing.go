@@ -17,6 +17,10 @@ import (
 // MostBytes is how large a message may be, in either direction.
 const MostBytes = 64 << 20
 
+// Window is how much of a stream, and of a connection, may be under way. Where it is given, gRPC doesn't find it out by itself, for which it would send a
+// ping with each small message.
+const Window = 1 << 20
+
 // A Codec takes the bytes of messages for the messages. Client and server each know them by their own name of a codec.
 type Codec struct{}
 
@@ -47,7 +51,10 @@ func (Codec) String() string { return "proto" }
 
 // Options are a server's that has every call of any service handled in one way, as bytes.
 func Options(handle grpc.StreamHandler) []grpc.ServerOption {
-	return []grpc.ServerOption{grpc.CustomCodec(Codec{}), grpc.UnknownServiceHandler(handle), grpc.MaxRecvMsgSize(MostBytes), grpc.MaxSendMsgSize(MostBytes)}
+	return []grpc.ServerOption{
+		grpc.CustomCodec(Codec{}), grpc.UnknownServiceHandler(handle), grpc.MaxRecvMsgSize(MostBytes), grpc.MaxSendMsgSize(MostBytes),
+		grpc.InitialWindowSize(Window), grpc.InitialConnWindowSize(Window),
+	}
 }
 
 // callOptions are a client's.

@@ -61,9 +61,10 @@ const (
 // where a process ended between the two, what was here at the record's last commit is known, or is that of the commit before, of which nothing was told;
 // and a copy of one file alone is found, unless it is older by one commit.
 type beside struct {
-	path string
-	db   *sql.DB // nil while the file isn't there
-	made int64   // the record's last commit with sides
+	path   string
+	db     *sql.DB // nil while the file isn't there
+	writer writer
+	made   int64 // the record's last commit with sides
 }
 
 // open opens the file, if it is there or is to be made, and finds out which commit is the record's last one.
@@ -135,15 +136,15 @@ func (beside *beside) load(ctx context.Context) (map[string][]byte, error) {
 
 // put puts sides as those of the commit after the record's last one.
 func (beside *beside) put(ctx context.Context, sides []Side) error {
-	return transact(ctx, beside.db, func(tx *sql.Tx) error {
-		if _, err := tx.ExecContext(ctx, takeLater, beside.made); err != nil {
+	return beside.writer.transact(ctx, beside.db, func(tx transaction) error {
+		if err := tx.run(takeLater, beside.made); err != nil {
 			return err
 		}
 		for _, side := range sides {
-			if _, err := tx.ExecContext(ctx, takeSide, side.Name); err != nil {
+			if err := tx.run(takeSide, side.Name); err != nil {
 				return err
 			}
-			if _, err := tx.ExecContext(ctx, putSide, side.Name, beside.made+1, side.Value); err != nil {
+			if err := tx.run(putSide, side.Name, beside.made+1, side.Value); err != nil {
 				return err
 			}
 		}
@@ -175,10 +176,7 @@ func (store *sqlite) CommitWith(ctx context.Context, sides []Side, changes []Cha
 	put := make(chan error, 1)
 	go func() { put <- beside.put(ctx, sides) }()
 	mark := fmt.Sprintf("PRAGMA user_version = %d", (beside.made+1)%counts)
-	err := store.commit(ctx, false, changes, func(tx *sql.Tx) error {
-		_, err := tx.ExecContext(ctx, mark)
-		return err
-	})
+	err := store.commit(ctx, false, changes, func(tx transaction) error { return tx.runOnce(mark) })
 	if failed := <-put; failed != nil && err == nil {
 		err = fmt.Errorf("%w: %v", ErrDevice, failed)
 	}

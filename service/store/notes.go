@@ -28,7 +28,8 @@ type Note struct {
 
 // Notes are a node's, beside its record: a file of SQLite with the table staged. The record's own file may have no other table.
 type Notes struct {
-	db *sql.DB
+	db     *sql.DB
+	writer writer
 }
 
 // OpenNotes opens the file, and makes it where it is missing. It holds the file's lock until it is closed.
@@ -47,7 +48,7 @@ func OpenNotes(ctx context.Context, path string) (*Notes, error) {
 		db.Close()
 		return nil, fmt.Errorf("%w: %v", ErrNotes, err)
 	}
-	return &Notes{db}, nil
+	return &Notes{db: db}, nil
 }
 
 // Load gives each volume's path.
@@ -82,14 +83,14 @@ func (notes *Notes) load(ctx context.Context) (map[uint64]string, error) {
 
 // Commit makes all changes, in order, or none.
 func (notes *Notes) Commit(ctx context.Context, changes []Note) error {
-	err := transact(ctx, notes.db, func(tx *sql.Tx) error {
+	err := notes.writer.transact(ctx, notes.db, func(tx transaction) error {
 		for _, change := range changes {
 			volume := binary.BigEndian.AppendUint64(nil, change.Volume)
 			var err error
 			if change.Out {
-				_, err = tx.ExecContext(ctx, takeNote, volume)
+				err = tx.run(takeNote, volume)
 			} else {
-				_, err = tx.ExecContext(ctx, putNote, volume, change.Path)
+				err = tx.run(putNote, volume, change.Path)
 			}
 			if err != nil {
 				return err
@@ -105,7 +106,7 @@ func (notes *Notes) Commit(ctx context.Context, changes []Note) error {
 
 // Close gives the file up.
 func (notes *Notes) Close() error {
-	if err := closeFile(notes.db); err != nil {
+	if err := closeFile(notes.db, &notes.writer); err != nil {
 		return fmt.Errorf("%w: the last checkpoint: %v", ErrNotes, err)
 	}
 	return nil

@@ -25,10 +25,10 @@ const (
 
 // sqlite is the store that csi-replay has too: a file with the table parts.
 type sqlite struct {
-	db        *sql.DB
-	put, take *sql.Stmt
-	lost      chan struct{}
-	beside    beside
+	db     *sql.DB
+	writer writer
+	lost   chan struct{}
+	beside beside
 }
 
 // OpenSQLite opens the file of a store, and makes it where it is missing. It holds the file's lock until it is closed.
@@ -53,13 +53,7 @@ func openSQLite(ctx context.Context, path string, has table) (*sqlite, error) {
 	}
 	db.SetMaxOpenConns(1) // one connection, which has the lock
 	store := &sqlite{db: db, lost: make(chan struct{}), beside: beside{path: path + ".beside"}}
-	if err = prepare(ctx, db, has); err == nil {
-		store.put, err = db.PrepareContext(ctx, putPart)
-	}
-	if err == nil {
-		store.take, err = db.PrepareContext(ctx, takePart)
-	}
-	if err != nil {
+	if err = prepare(ctx, db, has); err != nil {
 		db.Close()
 		return nil, fmt.Errorf("%w: %v", ErrNotOpened, err)
 	}
@@ -94,18 +88,11 @@ func prepare(ctx context.Context, db *sql.DB, has table) error {
 	if mode != "wal" {
 		return fmt.Errorf("it stays in the mode %s", mode)
 	}
-	return transact(ctx, db, func(tx *sql.Tx) error {
-		_, err := tx.ExecContext(ctx, has.makes)
-		return err
-	})
-}
-
-func transact(ctx context.Context, db *sql.DB, change func(*sql.Tx) error) error {
 	tx, err := db.BeginTx(ctx, nil)
 	if err != nil {
 		return err
 	}
-	if err := change(tx); err != nil {
+	if _, err := tx.ExecContext(ctx, has.makes); err != nil {
 		tx.Rollback()
 		return err
 	}
@@ -139,20 +126,19 @@ func (store *sqlite) Commit(ctx context.Context, anew bool, changes []Change) er
 	if !anew && len(changes) == 0 {
 		return nil // the file's lock says that it is ours
 	}
-	return store.commit(ctx, anew, changes, func(*sql.Tx) error { return nil })
+	return store.commit(ctx, anew, changes, func(transaction) error { return nil })
 }
 
 // commit makes changes, and more in the same transaction.
-func (store *sqlite) commit(ctx context.Context, anew bool, changes []Change, more func(*sql.Tx) error) error {
-	err := transact(ctx, store.db, func(tx *sql.Tx) error {
+func (store *sqlite) commit(ctx context.Context, anew bool, changes []Change, more func(transaction) error) error {
+	err := store.writer.transact(ctx, store.db, func(tx transaction) error {
 		if anew {
-			if _, err := tx.ExecContext(ctx, takeAll); err != nil {
+			if err := tx.run(takeAll); err != nil {
 				return err
 			}
 		}
-		put, take := tx.StmtContext(ctx, store.put), tx.StmtContext(ctx, store.take)
 		for _, change := range changes {
-			if err := apply(ctx, put, take, change); err != nil {
+			if err := apply(tx, change); err != nil {
 				return err
 			}
 		}
@@ -164,23 +150,21 @@ func (store *sqlite) commit(ctx context.Context, anew bool, changes []Change, mo
 	return nil
 }
 
-func apply(ctx context.Context, put, take *sql.Stmt, change Change) error {
+func apply(tx transaction, change Change) error {
 	key := binary.BigEndian.AppendUint64(nil, change.Key)
 	if change.Out {
-		_, err := take.ExecContext(ctx, key)
-		return err
+		return tx.run(takePart, key)
 	}
-	_, err := put.ExecContext(ctx, key, change.Value)
-	return err
+	return tx.run(putPart, key, change.Value)
 }
 
 func (store *sqlite) Lost() <-chan struct{} { return store.lost }
 
 // Close puts the log back into the file, which alone is the store then.
 func (store *sqlite) Close() error {
-	err := closeFile(store.db)
+	err := closeFile(store.db, &store.writer)
 	if store.beside.db != nil {
-		if closed := closeFile(store.beside.db); err == nil {
+		if closed := closeFile(store.beside.db, &store.beside.writer); err == nil {
 			err = closed
 		}
 	}
@@ -190,7 +174,8 @@ func (store *sqlite) Close() error {
 	return nil
 }
 
-func closeFile(db *sql.DB) error {
+func closeFile(db *sql.DB, by *writer) error {
+	by.close()
 	_, failed := db.Exec("PRAGMA wal_checkpoint(TRUNCATE)")
 	if err := db.Close(); err != nil && failed == nil {
 		return err

@@ -87,13 +87,13 @@ func (keeper keeper) Texts(ctx context.Context) ([]Text, error) {
 }
 
 func (keeper keeper) CommitBoth(ctx context.Context, changes []Change, texts []Text) error {
-	return keeper.commit(ctx, false, changes, func(tx *sql.Tx) error {
+	return keeper.commit(ctx, false, changes, func(tx transaction) error {
 		for _, text := range texts {
 			var err error
 			if text.Out {
-				_, err = tx.ExecContext(ctx, takeText, text.Key)
+				err = tx.run(takeText, text.Key)
 			} else {
-				_, err = tx.ExecContext(ctx, putText, text.Key, text.Value)
+				err = tx.run(putText, text.Key, text.Value)
 			}
 			if err != nil {
 				return err

@@ -8,6 +8,7 @@ import (
 	"sort"
 	"sync"
 	"sync/atomic"
+	"syscall"
 	"testing"
 	"time"
 
@@ -19,10 +20,19 @@ import (
 	"tufayon/service/upstream/upstreamtest"
 )
 
-// works are what an upstream's deed takes.
-var works = map[string]func(b *testing.B) func(){
-	"nothing": func(*testing.B) func() { return nil },
-	"a sync": func(b *testing.B) func() {
+// A work is what an upstream's deed takes.
+type work struct {
+	name string
+	make func(b *testing.B) func()
+}
+
+func sleeps(name string, long time.Duration) work {
+	return work{name, func(*testing.B) func() { return func() { time.Sleep(long) } }}
+}
+
+var works = []work{
+	{"nothing", func(*testing.B) func() { return nil }},
+	{"a sync", func(b *testing.B) func() {
 		file, err := os.Create(filepath.Join(b.TempDir(), "state"))
 		if err != nil {
 			b.Fatal(err)
@@ -34,27 +44,37 @@ var works = map[string]func(b *testing.B) func(){
 			}
 			file.Sync()
 		}
-	},
-	"10ms": func(*testing.B) func() { return func() { time.Sleep(10 * time.Millisecond) } },
+	}},
+	sleeps("1ms", time.Millisecond), sleeps("2ms", 2*time.Millisecond), sleeps("5ms", 5*time.Millisecond), sleeps("10ms", 10*time.Millisecond),
 }
 
-// BenchmarkAttach has volumes attached and detached by clients at once, at an upstream alone and through a driver before it, whose store is on the disk of
-// TMPDIR: calls a second, and the median time of one.
+// BenchmarkAttach has volumes attached and detached by clients at once, at an upstream alone and then through a driver before it, whose store is on the disk
+// of TMPDIR: calls a second, the median time of one, how many times that of the upstream alone it is, and how long all of it has the processors for one.
 func BenchmarkAttach(b *testing.B) {
-	for _, work := range []string{"nothing", "a sync", "10ms"} {
+	for _, work := range works {
 		for _, clients := range []int{1, 16, 64} {
-			for _, through := range []bool{false, true} {
-				name := "alone"
-				if through {
-					name = "through"
+			var alone time.Duration
+			b.Run(fmt.Sprintf("work=%s/clients=%d/alone", work.name, clients), func(b *testing.B) { alone = benchmarkAttach(b, work.make(b), clients, false) })
+			b.Run(fmt.Sprintf("work=%s/clients=%d/through", work.name, clients), func(b *testing.B) {
+				if through := benchmarkAttach(b, work.make(b), clients, true); alone > 0 {
+					b.ReportMetric(float64(through)/float64(alone), "times")
 				}
-				b.Run(fmt.Sprintf("work=%s/clients=%d/%s", work, clients, name), func(b *testing.B) { benchmarkAttach(b, works[work](b), clients, through) })
-			}
+			})
 		}
 	}
 }
 
-func benchmarkAttach(b *testing.B, work func(), clients int, through bool) {
+// processors is how long this process, with its clients, its upstream and its driver, has had the processors.
+func processors() time.Duration {
+	var used syscall.Rusage
+	if syscall.Getrusage(syscall.RUSAGE_SELF, &used) != nil {
+		return 0
+	}
+	return time.Duration(used.Utime.Nano() + used.Stime.Nano())
+}
+
+// benchmarkAttach gives the median time of a call.
+func benchmarkAttach(b *testing.B, work func(), clients int, through bool) time.Duration {
 	box := newBox(b, upstream.Options{}).start()
 	box.behind.Work, box.behind.Forgets = work, true
 	client := box.client
@@ -81,7 +101,7 @@ func benchmarkAttach(b *testing.B, work func(), clients int, through bool) {
 	var took []time.Duration
 	left := int64(b.N)
 	b.ResetTimer()
-	began := time.Now()
+	began, busy := time.Now(), processors()
 	for at := 0; at < clients; at++ {
 		all.Add(1)
 		go func(id string) {
@@ -96,8 +116,11 @@ func benchmarkAttach(b *testing.B, work func(), clients int, through bool) {
 	}
 	all.Wait()
 	sort.Slice(took, func(i, j int) bool { return took[i] < took[j] })
-	if len(took) > 0 {
-		b.ReportMetric(float64(len(took))/time.Since(began).Seconds(), "calls/s")
-		b.ReportMetric(float64(took[len(took)/2])/1e6, "median-ms")
+	if len(took) == 0 {
+		return 0
 	}
+	b.ReportMetric(float64(len(took))/time.Since(began).Seconds(), "calls/s")
+	b.ReportMetric(float64(took[len(took)/2])/1e6, "median-ms")
+	b.ReportMetric(float64(processors()-busy)/float64(len(took))/1e3, "processor-us")
+	return took[len(took)/2]
 }

@@ -19,6 +19,16 @@ service_environment() {
     export CGO_CFLAGS="-O2 -I$top/include" CGO_LDFLAGS="$2 $(dirname "$(rt doc)")/c/liblibc_c.a"
 }
 
+# Writes to the folder $1 of each program that follows which files of sources it is made of, each with its package: for tools/packaging/parties. It is run in
+# the tree.
+service_linked() {
+    local folder="$1" it each='{{$it := .}}'
+    for it in GoFiles CgoFiles CFiles HFiles SFiles; do each+='{{range .'$it'}}{{$it.ImportPath}}{{"\t"}}{{$it.Dir}}/{{.}}{{"\n"}}{{end}}'; done
+    shift
+    mkdir -p "$folder"
+    for it in "$@"; do go list -deps -f "$each" "./cmd/$it" | sed '/^$/d' > "$folder/$it"; done
+}
+
 # Runs a command that builds, one at a time of those that share a cache: who comes second finds what the first has built.
 in_turn() {
     if [ -n "${CSI_GOCACHE-}" ]; then

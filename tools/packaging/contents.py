@@ -1,7 +1,10 @@
 """Which files each package has to have, beside what Debian asks for in each."""
 import glob
+import gzip
+import io
 import os
 import subprocess
+import tarfile
 
 TOP = os.path.dirname(os.path.dirname(os.path.dirname(os.path.realpath(__file__))))
 FORMATS = ("FORMATS", "FRAMES", "RECORDS", "LINES", "DRIVER", "SERVICE")
@@ -19,7 +22,7 @@ CONTENTS = {
         *(f"usr/share/doc/libtufayon-dev/examples/{it}" for it in EMBED),
     },
     "tufayon-service": {
-        *(f"usr/bin/tufayon-{it}" for it in (*PARTS, "certificates", "demo")), "usr/bin/tufayonctl",
+        *(f"usr/bin/tufayon-{it}" for it in (*PARTS, "certificates", "demo")), "usr/bin/tufayonctl", "usr/bin/csi-driver",
         *(f"lib/systemd/system/tufayon-{it}@.service" for it in PARTS), "usr/lib/sysusers.d/tufayon-service.conf", "usr/lib/tmpfiles.d/tufayon-service.conf",
         *(f"etc/tufayon/example/{it}.json" for it in (*PARTS, "set")),
         "usr/share/bash-completion/completions/tufayonctl", "usr/share/zsh/vendor-completions/_tufayonctl", "usr/share/fish/vendor_completions.d/tufayonctl.fish",
@@ -27,6 +30,9 @@ CONTENTS = {
         *(f"usr/share/doc/tufayon-service/{it}.md" for it in ("OPERATING", "SERVICE", "DRIVER", "UPSTREAM", "CHANGELOG")),
     },
 }
+
+# What of each package others' code is linked into.
+LINKED = {"tufayon": {"csi-replay"}, "libtufayon-dev": {"libtufayon.a"}, "tufayon-service": {*(f"tufayon-{it}" for it in PARTS), "tufayonctl", "csi-driver"}}
 
 
 def files_of(package):
@@ -39,3 +45,11 @@ def files_of(package):
         if path and not path.endswith("/") and not (folder.startswith("usr/share/doc/") and name.split(".")[0] in ("copyright", "changelog", "THIRD-PARTIES")):
             found.add(path)
     return {it.removesuffix(".gz") if it.startswith("usr/share/doc/") else it for it in found}
+
+
+def parties_of(package, name):
+    """What a package of this name says of its licence, and of what of others is linked into its programs."""
+    packed = subprocess.run(["dpkg-deb", "--fsys-tarfile", package], stdout=subprocess.PIPE, check=True).stdout
+    with tarfile.open(fileobj=io.BytesIO(packed)) as files:
+        licence, parties = (files.extractfile(f"./usr/share/doc/{name}/{it}").read() for it in ("copyright", "THIRD-PARTIES.gz"))
+    return licence.decode(), gzip.decompress(parties).decode()

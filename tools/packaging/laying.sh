@@ -16,7 +16,7 @@ lay_library() {
 # The programs of service/, which lie in $1, and what belongs to them.
 lay_service() {
     local it
-    for it in tufayon-orchestrator tufayon-controller tufayon-node tufayonctl; do lay "$1/$it" "usr/bin/$it" 755; done
+    for it in tufayon-orchestrator tufayon-controller tufayon-node tufayonctl csi-driver; do lay "$1/$it" "usr/bin/$it" 755; done
     lay "$top/tools/certificates" usr/bin/tufayon-certificates 755
     lay "$top/deploy/demo" usr/bin/tufayon-demo 755
     for it in "$top"/deploy/systemd/*.service; do lay "$it" "lib/systemd/system/${it##*/}"; done

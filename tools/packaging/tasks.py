@@ -72,7 +72,7 @@ def starts_nothing(machine):
 
 def programs(machine):
     """What needs no set: the program, its audit, the demonstration, the library's file for pkg-config, and what tufayonctl is linked with."""
-    machine("csi-replay --version && test -f /usr/share/man/man1/csi-replay.1.gz")
+    machine("csi-replay --version && csi-driver --version && test -f /usr/share/man/man1/csi-replay.1.gz")
     machine("printf '%s' '{\"greatest\":1000,\"nodes\":[]}' > /tmp/config && csi-replay controller /tmp/c.db /tmp/config < /dev/null && "
             "csi-replay record /tmp/c.db | tufayon-audit | grep -qx 'nothing found'")
     machine("cd /packages/old && apt-get install -y ./libtufayon-dev*.deb && grep -q '^Version: ' /usr/lib/x86_64-linux-gnu/pkgconfig/tufayon.pc")
@@ -338,7 +338,7 @@ export ETCDCTL_CACERT=/etc/etcd/ca.pem ETCDCTL_CERT=/etc/etcd/cert.pem ETCDCTL_K
 def replace(system, number):
     """A machine with an orchestrator, a member of etcd and a node is gone with its disk. Another one in its place gets its files, and joins."""
     machine = system[number]
-    _, files = machine("cd /root && umask 077 && tar -C / -czf files.tgz etc/tufayon/s1 etc/etcd etc/default/etcd && base64 -w 0 files.tgz")
+    _, files = machine("cd /root; (umask 077 && tar -C / -czf files.tgz etc/tufayon/s1 etc/etcd etc/default/etcd) && base64 -w 0 files.tgz")
     machine.kill()
     soon("another leads", lambda: system.ask("list", check=False)[0] == 0)
     session = lost(system, number)
@@ -347,8 +347,8 @@ etcdctl member add m{number} --peer-urls=https://{NETWORK}.{number}:2380""")
     machine.empty()
     machine.start()
     install(machine, "/packages/new")
-    machine(f"echo {files} | base64 -d | tar -C / -xz")
-    machine("echo ETCD_INITIAL_CLUSTER_STATE=existing >> /etc/default/etcd\nsystemctl restart etcd")
+    machine(f"umask 077 && echo {files} | base64 -d > /root/files.tgz")
+    machine("cd /root\ntar -C / -xzf files.tgz\necho ETCD_INITIAL_CLUSTER_STATE=existing >> /etc/default/etcd\nsystemctl restart etcd")
     machine(f"sed -i 's/\"node\": /\"session\": {session}, \"node\": /' {FILES}/node.json")
     for part in ("node", "orchestrator"):
         machine(f"systemctl enable --now tufayon-{part}@{SET}")

@@ -90,6 +90,7 @@ func (upstream *Upstream) Restart() {
 		upstream.testing.Error(err)
 		return
 	}
+	listener.(*net.UnixListener).SetUnlinkOnClose(false) // it may be closed once the next life has the socket
 	server := grpc.NewServer(passing.Options(upstream.handle)...)
 	upstream.mutex.Lock()
 	upstream.server = server
