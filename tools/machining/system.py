@@ -140,6 +140,7 @@ class System:
             if name not in MEMBERS:
                 part.start()
         self.until(lambda: all(self.leader(role) for role in PLACES), "an orchestrator and a controller lead")
+        self.until(self.all_ready, "each plugin has begun the session")
 
     def until(self, holds, what, within=START):
         until = time.monotonic() + within
@@ -147,6 +148,11 @@ class System:
             if time.monotonic() > until:
                 raise Found(f"not within {within} seconds: {what}")
             time.sleep(0.1)
+
+    def all_ready(self):
+        """Whether the orchestrator that leads has begun its session at the controller and each node."""
+        status, output, _ = self.control(CLIENTS[0], "nodes")
+        return status == 0 and all(it["connection"] == "READY" and not it["trouble"] for it in json.loads(output)["nodes"])
 
     def ask(self, member, call, within=2, **request):
         """What the gateway of a member of etcd answers to a call."""
