@@ -5,6 +5,7 @@ import (
 	"encoding/binary"
 	"errors"
 	"fmt"
+	"path/filepath"
 	"sort"
 	"sync"
 	"testing"
@@ -13,6 +14,8 @@ import (
 	"google.golang.org/grpc/metadata"
 	"google.golang.org/grpc/status"
 
+	"tufayon/service/etcd"
+	"tufayon/service/etcd/etcdtest"
 	"tufayon/service/frames"
 	"tufayon/service/numbers"
 	"tufayon/service/plugin"
@@ -372,6 +375,44 @@ func TestOtherCallLater(t *testing.T) {
 	wants(t, core, 2, 2, detach(1, "n2"), codes.OK)
 	wants(t, core, 2, 3, attach(1, "n2"), codes.OK)
 	wants(t, core, 2, 3, attach(1, "n1"), codes.FailedPrecondition)
+}
+
+// It is so over a file, and over etcd, whose store the next process opens.
+func TestOtherCallOverStores(t *testing.T) {
+	t.Run("SQLite", func(t *testing.T) {
+		path := filepath.Join(t.TempDir(), "c.db")
+		refusesOtherCalls(t, func() (store.Store, error) { return store.OpenSQLite(context.Background(), path) })
+	})
+	t.Run("etcd", func(t *testing.T) {
+		config := etcd.Config{Endpoints: []string{etcdtest.Start(t)}, Prefix: "/t", LeaseSeconds: 5}
+		refusesOtherCalls(t, func() (store.Store, error) { return config.Open(context.Background()) })
+	})
+}
+
+func refusesOtherCalls(t *testing.T, open func() (store.Store, error)) {
+	serve := func(calls func(*serving.Core)) {
+		t.Helper()
+		kept, err := open()
+		if err != nil {
+			t.Fatal(err)
+		}
+		core := opened(t, controller, kept)
+		calls(core)
+		core.Close()
+		if err := kept.Close(); err != nil {
+			t.Error(err)
+		}
+	}
+	serve(func(core *serving.Core) {
+		wants(t, core, 1, 1, create("v"), codes.OK)
+		wants(t, core, 1, 2, attach(1, "n1"), codes.OK)
+	})
+	for count := 0; count < 2; count++ {
+		serve(func(core *serving.Core) {
+			wants(t, core, 1, 2, attach(1, "n2"), codes.FailedPrecondition)
+			wants(t, core, 1, 2, attach(1, "n1"), codes.OK)
+		})
+	}
 }
 
 // At a node likewise: what it is told to do at another target by a number that was used, or with which a session began, it doesn't do.
