@@ -12,40 +12,62 @@ import (
 
 // measured is a store that counts what is committed. One goroutine commits.
 type measured struct {
-	store.Store
-	commits, changes, bytes int64
+	store.Sided
+	commits, changes, bytes int64 // changes are sides too
+	sides                   int64
 }
 
 func (it *measured) Commit(ctx context.Context, anew bool, changes []store.Change) error {
-	if len(changes) > 0 {
-		it.commits++
-		it.changes += int64(len(changes))
-		for _, change := range changes {
-			it.bytes += int64(8 + len(change.Value))
-		}
-	}
-	return it.Store.Commit(ctx, anew, changes)
+	it.count(nil, changes)
+	return it.Sided.Commit(ctx, anew, changes)
 }
 
-func (it *measured) reset() { it.commits, it.changes, it.bytes = 0, 0, 0 }
+func (it *measured) CommitWith(ctx context.Context, sides []store.Side, changes []store.Change) error {
+	it.count(sides, changes)
+	return it.Sided.CommitWith(ctx, sides, changes)
+}
+
+func (it *measured) count(sides []store.Side, changes []store.Change) {
+	if len(sides)+len(changes) == 0 {
+		return
+	}
+	it.commits++
+	it.changes += int64(len(changes) + len(sides))
+	it.sides += int64(len(sides))
+	for _, change := range changes {
+		it.bytes += int64(8 + len(change.Value))
+	}
+	for _, side := range sides {
+		it.bytes += int64(len(side.Name) + len(side.Value))
+	}
+}
+
+func (it *measured) reset() { it.commits, it.changes, it.bytes, it.sides = 0, 0, 0, 0 }
 
 // perCommit is how many changes a commit had.
-func (it *measured) perCommit() int {
-	if it.commits == 0 {
+func (it *measured) perCommit() int { return perCommit(it.changes, it.commits) }
+
+func perCommit(count, commits int64) int {
+	if commits == 0 {
 		return 1
 	}
-	return int((it.changes + it.commits/2) / it.commits)
+	return int((count + commits/2) / commits)
 }
 
-// repeat commits changes as many and as large as a commit had, under keys that no record has.
+// repeat commits changes as many and as large as a commit had, under keys that no record has, and as many of them as sides.
 func (it *measured) repeat(b *testing.B, size, times int) {
-	count := it.perCommit()
+	count, besides := it.perCommit(), perCommit(it.sides, it.commits)
 	for at := 0; at < times; at++ {
 		var changes []store.Change
+		var sides []store.Side
 		for row := 0; row < count; row++ {
-			changes = append(changes, store.Change{Key: 1<<62 + uint64(row), Value: make([]byte, size/count+1)})
+			if value := make([]byte, size/count+1); row < besides {
+				sides = append(sides, store.Side{Name: fmt.Sprint("alone/", row), Value: value})
+			} else {
+				changes = append(changes, store.Change{Key: 1<<62 + uint64(row), Value: value})
+			}
 		}
-		if err := it.Store.Commit(ctx, false, changes); err != nil {
+		if err := it.Sided.CommitWith(ctx, sides, changes); err != nil {
 			b.Fatal(err)
 		}
 	}

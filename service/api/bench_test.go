@@ -46,7 +46,7 @@ func open(b *testing.B, over string) (*measured, func(size, times int)) {
 		if err != nil {
 			b.Fatal(err)
 		}
-		it := &measured{Store: kept}
+		it := &measured{Sided: kept.(store.Sided)}
 		return it, func(size, times int) { it.repeat(b, size, times) }
 	}
 	endpoints := strings.Split(os.Getenv(endpointsKey), ",")
@@ -55,7 +55,7 @@ func open(b *testing.B, over string) (*measured, func(size, times int)) {
 	if err != nil {
 		b.Fatal(err)
 	}
-	it := &measured{Store: kept}
+	it := &measured{Sided: kept.(store.Sided)}
 	return it, func(size, times int) { transactions(b, endpoints, prefix+"/alone", it.perCommit(), size, times) }
 }
 

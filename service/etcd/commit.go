@@ -105,9 +105,9 @@ func (leading *leading) CommitWith(ctx context.Context, sides []store.Side, chan
 	return leading.commit(ctx, leading.editsOf(lastOfEach(changes)), leading.putsOf(sides))
 }
 
-// CommitBoth makes the changes of both in the same way.
-func (leading *leading) CommitBoth(ctx context.Context, changes []store.Change, texts []store.Text) error {
-	return leading.commit(ctx, append(leading.editsOf(lastOfEach(changes)), leading.textEditsOf(texts)...), nil)
+// CommitBoth makes the changes of both in the same way, and puts sides.
+func (leading *leading) CommitBoth(ctx context.Context, changes []store.Change, texts []store.Text, sides []store.Side) error {
+	return leading.commit(ctx, append(leading.editsOf(lastOfEach(changes)), leading.textEditsOf(texts)...), leading.putsOf(sides))
 }
 
 // commit makes edits, of which no two are of one key, and puts sides.

@@ -190,14 +190,14 @@ func TestTexts(t *testing.T) {
 			edits = append(edits, store.Text{Key: fmt.Sprintf("volume/%d", at), Value: fmt.Sprint("a/b ", count)})
 			record[at], texts[fmt.Sprintf("volume/%d", at)] = fmt.Sprint(count), fmt.Sprint("a/b ", count)
 		}
-		if err := kept.CommitBoth(ctx, changes, edits); err != nil {
+		if err := kept.CommitBoth(ctx, changes, edits, nil); err != nil {
 			t.Fatal(err)
 		}
 		wants()
 	}
 	delete(record, 3)
 	delete(texts, "volume/3")
-	if err := kept.CommitBoth(ctx, []store.Change{{Key: 3, Out: true}}, []store.Text{{Key: "volume/3", Out: true}}); err != nil {
+	if err := kept.CommitBoth(ctx, []store.Change{{Key: 3, Out: true}}, []store.Text{{Key: "volume/3", Out: true}}, nil); err != nil {
 		t.Fatal(err)
 	}
 	wants()

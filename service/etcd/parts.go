@@ -28,23 +28,27 @@ func (leading *leading) wholeKey() string { return leading.prefix + "/whole" }
 func (leading *leading) countKey() string { return leading.prefix + "/commits" }
 func (leading *leading) sidesKey() string { return leading.prefix + "/beside/" }
 
-// putsOf put sides.
+// putsOf put sides, or take them out.
 func (leading *leading) putsOf(sides []store.Side) []clientv3.Op {
 	puts := make([]clientv3.Op, 0, len(sides))
 	for _, side := range sides {
-		puts = append(puts, clientv3.OpPut(leading.sidesKey()+side.Name, string(side.Value)))
+		if side.Out {
+			puts = append(puts, clientv3.OpDelete(leading.sidesKey()+side.Name))
+		} else {
+			puts = append(puts, clientv3.OpPut(leading.sidesKey()+side.Name, string(side.Value)))
+		}
 	}
 	return puts
 }
 
-// Sides reads all sides.
+// Sides reads all sides at one revision.
 func (leading *leading) Sides(ctx context.Context) (map[string][]byte, error) {
-	got, err := leading.get(ctx, leading.sidesKey(), clientv3.WithPrefix())
+	found, err := leading.read(ctx, leading.sidesKey())
 	if err != nil {
 		return nil, err
 	}
-	sides := make(map[string][]byte, len(got.Kvs))
-	for _, it := range got.Kvs {
+	sides := make(map[string][]byte, len(found))
+	for _, it := range found {
 		sides[strings.TrimPrefix(string(it.Key), leading.sidesKey())] = it.Value
 	}
 	return sides, nil

@@ -43,6 +43,14 @@ func TestSides(t *testing.T) {
 		t.Fatal(err)
 	}
 	has("map[alone:1 large: plugin/node:n 1:large small:]")
+	if err := kept.CommitBoth(ctx, nil, nil, []store.Side{{Name: "alone", Out: true}, {Name: "none", Out: true}, {Name: "alone2", Value: []byte("2"), First: true}}); err != nil {
+		t.Fatal(err)
+	}
+	has("map[alone2:2 large: plugin/node:n 1:large small:]")
+	if err := kept.CommitWith(ctx, []store.Side{{Name: "alone2", Out: true}, {Name: "alone", Value: []byte("1")}}, nil); err != nil {
+		t.Fatal(err)
+	}
+	has("map[alone:1 large: plugin/node:n 1:large small:]")
 	old := kept
 	if _, err := old.client.Revoke(ctx, old.session.Lease()); err != nil {
 		t.Fatal(err)

@@ -85,6 +85,7 @@ type Life struct {
 // remade asks for a plugin that is made anew.
 type remade struct {
 	maker    plugin.Maker
+	judge    Judge
 	answered chan<- error
 }
 
@@ -174,7 +175,7 @@ func (life *Life) register(server *grpc.Server) {
 func (life *Life) serve(ctx context.Context) error {
 	var err error
 	if life.store, err = life.driver.Open(ctx); err == nil {
-		err = life.open(ctx)
+		err = life.open(ctx, nil)
 	}
 	if err != nil {
 		if ctx.Err() != nil && life.core == nil {
@@ -194,7 +195,7 @@ func (life *Life) serve(ctx context.Context) error {
 		case err := <-life.served:
 			return err
 		case it := <-life.remakes:
-			err := life.remake(ctx, it.maker)
+			err := life.remake(ctx, it.maker, it.judge)
 			it.answered <- err
 			if life.core == nil {
 				return err
@@ -207,8 +208,8 @@ func (life *Life) serve(ctx context.Context) error {
 	}
 }
 
-// open makes the plugin of what the store has, and has the servers serve it.
-func (life *Life) open(ctx context.Context) error {
+// open makes the plugin of what the store has, and has the servers serve it, unless that is judged to be wrong.
+func (life *Life) open(ctx context.Context, judge Judge) error {
 	config := serving.Config{
 		Store: life.store, Numbering: life.driver.Numbering, MustBegin: life.driver.MustBegin, Observer: life.driver.Observer,
 		Texts: life.driver.Upstream != nil,
@@ -231,6 +232,10 @@ func (life *Life) open(ctx context.Context) error {
 	}
 	core, err := serving.Open(ctx, config)
 	if err != nil {
+		return err
+	}
+	if err := judge.of(ctx, core); err != nil {
+		core.Close()
 		return err
 	}
 	life.core = core

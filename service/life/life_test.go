@@ -17,6 +17,7 @@ import (
 	"tufayon/service/driver"
 	"tufayon/service/numbers"
 	"tufayon/service/plugin"
+	"tufayon/service/serving"
 	"tufayon/service/store"
 	"tufayon/service/wire"
 )
@@ -80,12 +81,28 @@ func TestRemake(t *testing.T) {
 		t.Fatal(err)
 	}
 	for id, want := range map[string]error{"n1": nil, "n2": plugin.BadRecord, strings.Repeat("n", 256): plugin.BadName} {
-		err := life.Remake(context.Background(), plugin.Maker{Name: []byte(id)})
+		err := life.Remake(context.Background(), plugin.Maker{Name: []byte(id)}, nil)
 		if !errors.Is(err, want) {
 			t.Errorf("as %s: %v, not %v", id, err, want)
 		}
 		if err := stage(client, "1.1"); err != nil {
 			t.Errorf("after it was made as %s: %v", id, err)
+		}
+	}
+	for _, passes := range []int{0, 1, 2} { // it is judged while it is served, and once it isn't any more
+		its, judged, rows := errors.New("no"), 0, 0
+		err := life.Remake(context.Background(), plugin.Maker{Name: []byte("n1")}, func(view serving.View) error {
+			if judged++; judged > passes {
+				return its
+			}
+			rows += view.Count()
+			return nil
+		})
+		if passes < 2 && !errors.Is(err, its) || passes == 2 && err != nil || rows != passes {
+			t.Errorf("judged to be wrong after %d: %v, %d rows", passes, err, rows)
+		}
+		if err := stage(client, "1.1"); err != nil {
+			t.Errorf("judged after %d: %v", passes, err)
 		}
 	}
 	if err := stage(client, "0.9"); status.Code(err) != codes.Aborted {

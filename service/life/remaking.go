@@ -5,22 +5,31 @@ import (
 	"fmt"
 
 	"tufayon/service/plugin"
+	"tufayon/service/serving"
 )
 
-// Remake has the plugin made anew of its record, a controller's by another configuration, while the store and the sockets stay. Calls that come meanwhile
-// are refused by 14 `not ready`, as at a start. Where the plugin can't be made so, the one of before goes on, and it says why.
-func (life *Life) Remake(ctx context.Context, maker plugin.Maker) error {
+// A Judge says why a plugin isn't to be made anew where its record is as it is.
+type Judge func(serving.View) error
+
+// Remake has the plugin made anew of its record, a controller's by another configuration, while the store and the sockets stay, unless that is judged to be
+// wrong. Calls that come meanwhile are refused by 14 `not ready`, as at a start. Where the plugin can't be made so, the one of before goes on, and it says
+// why.
+func (life *Life) Remake(ctx context.Context, maker plugin.Maker, judge Judge) error {
 	answered := make(chan error, 1)
 	select {
-	case life.remakes <- remade{maker, answered}:
+	case life.remakes <- remade{maker, judge, answered}:
 	case <-ctx.Done():
 		return ctx.Err()
 	}
 	return <-answered
 }
 
-func (life *Life) remake(ctx context.Context, maker plugin.Maker) error {
+// remake judges it twice: while calls are answered, which all go on where it is wrong, and once none are.
+func (life *Life) remake(ctx context.Context, maker plugin.Maker, judge Judge) error {
 	if err := maker.Check(); err != nil {
+		return err
+	}
+	if err := judge.of(ctx, life.core); err != nil {
 		return err
 	}
 	err := life.endCore()
@@ -30,12 +39,24 @@ func (life *Life) remake(ctx context.Context, maker plugin.Maker) error {
 	}
 	before := life.driver.Maker
 	life.driver.Maker = maker
-	if err = life.open(ctx); err == nil {
+	if err = life.open(ctx, judge); err == nil {
 		return nil
 	}
 	life.driver.Maker = before
-	if back := life.open(ctx); back != nil {
+	if back := life.open(ctx, nil); back != nil {
 		return fmt.Errorf("%v; and as it was: %w", err, back)
 	}
 	return err
+}
+
+// of judges what a core has.
+func (judge Judge) of(ctx context.Context, core *serving.Core) error {
+	if judge == nil {
+		return nil
+	}
+	var why error
+	if err := core.Look(ctx, func(view serving.View) { why = judge(view) }); err != nil {
+		return err
+	}
+	return why
 }

@@ -24,7 +24,9 @@ import (
 	"tufayon/service/metrics"
 	"tufayon/service/numbers"
 	"tufayon/service/plugin"
+	"tufayon/service/records"
 	"tufayon/service/secure"
+	core "tufayon/service/serving"
 	"tufayon/service/settings"
 	"tufayon/service/store"
 	"tufayon/service/upstream"
@@ -267,7 +269,7 @@ func (running *serving) readAnew(ctx context.Context) error {
 		return err
 	}
 	if maker := makerOf(read); string(maker.Name) != string(makerOf(running.read).Name) {
-		if err := running.life.Remake(ctx, maker); err != nil {
+		if err := running.life.Remake(ctx, maker, running.judge(read)); err != nil {
 			return settings.Faults{fmt.Sprintf("%s: nodes: %v", read.Plugin.Place.Set, err)}
 		}
 	}
@@ -275,6 +277,32 @@ func (running *serving) readAnew(ctx context.Context) error {
 	running.read = read
 	running.log.Info("the files were read anew", zap.Strings("nodes", read.Set.IDs()))
 	return nil
+}
+
+// judge judges another list of nodes, which may not leave out one where a volume is attached, and may be yet by the deed of a call under way. A controller
+// before another driver has the nodes of which it heard.
+func (running *serving) judge(read *settings.PluginSettings) life.Judge {
+	if read.Role != secure.Controller || read.Plugin.Upstream != "" {
+		return nil
+	}
+	listed := map[string]bool{}
+	for _, id := range read.Set.IDs() {
+		listed[id] = true
+	}
+	return func(view core.View) error {
+		for _, id := range view.Volumes() {
+			volume, err := records.ReadVolume(view.Row(id))
+			if err != nil {
+				return err
+			}
+			for _, node := range volume.Nodes {
+				if !listed[node] {
+					return fmt.Errorf("%w: %s", plugin.NodeInUse, node)
+				}
+			}
+		}
+		return nil
+	}
 }
 
 // stays says what isn't changed without a restart of the process.

@@ -197,6 +197,7 @@ func TestController(t *testing.T) {
 	set := newSet(t)
 	set.nodes = []string{"n1 127.0.0.1:1"}
 	set.list()
+	said := set.hears()
 	end := set.start(secure.Controller, set.process("c.json", "tufayon://s1/controller", `"store": "c.db", "name": "storage.example"`))
 	at := set.dial(orchestrator, set.controller, carrying.Controller)
 	if _, err := told.NewPluginClient(at).Begin(ctx, &told.BeginRequest{Session: 1}, grpc.WaitForReady(true)); err != nil {
@@ -229,8 +230,55 @@ func TestController(t *testing.T) {
 	if err != nil {
 		t.Errorf("a node that is listed now: %v", err)
 	}
+	// A list that leaves out a node where a volume is attached is refused, and the one of before counts.
+	set.nodes = set.nodes[:1]
+	set.list()
+	syscall.Kill(os.Getpid(), syscall.SIGHUP)
+	for !strings.Contains(said(), `set.json: nodes: node in use: n2`) && ctx.Err() == nil {
+		time.Sleep(10 * time.Millisecond)
+	}
+	detach := func(number string) {
+		t.Helper()
+		if _, err := client.ControllerUnpublishVolume(numbered(ctx, number), &wire.ControllerUnpublishVolumeRequest{VolumeId: "1", NodeId: "n2"}); err != nil {
+			t.Error(err)
+		}
+	}
+	detach("1.100000")
+	if err := attach("1.100001"); err != nil {
+		t.Errorf("a node that is in use, and left out: %v: %s", err, said())
+	}
+	detach("1.100002")
+	for count := 3; status.Code(err) != codes.NotFound && ctx.Err() == nil; count++ {
+		syscall.Kill(os.Getpid(), syscall.SIGHUP)
+		time.Sleep(10 * time.Millisecond)
+		if err = attach(fmt.Sprintf("1.%d", 100000+2*count)); err == nil {
+			detach(fmt.Sprintf("1.%d", 100001+2*count))
+		}
+	}
+	if status.Code(err) != codes.NotFound {
+		t.Errorf("a node that isn't in use, and left out: %v: %s", err, said())
+	}
 	if err := end(); err != nil {
 		t.Errorf("it ended by %v", err)
+	}
+}
+
+// hears has what is logged from now on go to a file, until the test ends, and gives what gives that.
+func (set *set) hears() func() string {
+	set.Helper()
+	file, before := set.write("log", ""), os.Stderr
+	log, err := os.OpenFile(file, os.O_WRONLY|os.O_APPEND, 0)
+	if err != nil {
+		set.Fatal(err)
+	}
+	os.Stderr = log
+	set.Cleanup(func() { os.Stderr = before; log.Close() })
+	return func() string {
+		text, err := os.ReadFile(file)
+		if err != nil {
+			set.Fatal(err)
+		}
+		return string(text)
 	}
 }
 

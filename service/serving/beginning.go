@@ -71,7 +71,7 @@ func (core *Core) begin(group *group, opening numbers.Opening) (frames.Number, e
 	if err != nil {
 		return heard, core.end(err)
 	}
-	group.sides = append(group.sides, store.Side{Name: begunName, Value: value})
+	group.addSide(store.Side{Name: begunName, Value: value})
 	return heard, core.raise(group, opening.Session)
 }
 
@@ -99,13 +99,16 @@ func (core *Core) Confirm(ctx context.Context, acknowledged frames.Number) error
 	})
 }
 
+// isByMetadata says whether calls come with numbers.
+func (core *Core) isByMetadata() bool {
+	_, is := core.source.(numbers.Metadata)
+	return is
+}
+
 // isBegun says whether calls of a session get to the plugin: one that was begun here, or an earlier one, of which the plugin itself knows more. Where none
 // was begun it says so of any, unless the service alone may begin them.
 func (core *Core) isBegun(session uint64) bool {
-	if _, byMetadata := core.source.(numbers.Metadata); !byMetadata {
-		return true
-	}
-	return session <= core.begun.Session || core.begun.Session == 0 && !core.config.MustBegin
+	return !core.isByMetadata() || session <= core.begun.Session || core.begun.Session == 0 && !core.config.MustBegin
 }
 
 // sent is what is known to be no earlier than any call that was heard before the session was begun: nothing, where the plugin has heard of a later one.
@@ -145,8 +148,8 @@ func (core *Core) raise(group *group, session uint64) error {
 	if core.latest() == session {
 		return nil
 	}
-	number := frames.Number{Session: session}
-	if _, err := core.answerOf(core.plugin, core.idling(), number); err != nil {
+	number, request := frames.Number{Session: session}, core.idling()
+	if _, err := core.answerOf(core.plugin, request, number); err != nil {
 		return err
 	}
 	changes, err := core.plugin.Changes()
@@ -155,6 +158,9 @@ func (core *Core) raise(group *group, session uint64) error {
 	}
 	group.add(changes)
 	core.apply(changes)
+	if volume := request.Body.Volume(); touches(changes, volume) {
+		core.isLast(group, volume, number, request, true)
+	}
 	if core.latest() != session {
 		return core.end(fmt.Errorf("the plugin doesn't begin session %d", session))
 	}
@@ -187,10 +193,11 @@ func (core *Core) idling() Request {
 	return Request{Node: id, Body: frames.NodeUnstageVolume{ID: unused}}
 }
 
-// loadBegun reads which session was begun last.
-func (core *Core) loadBegun(ctx context.Context) error {
+// loadSides reads what stands beside the record: which session was begun last, and the volumes' last calls.
+func (core *Core) loadSides(ctx context.Context) error {
 	core.begun = begun{}
 	sides, err := store.SidesOf(ctx, core.config.Store)
+	core.loadLast(sides)
 	if err != nil || sides[begunName] == nil {
 		return err
 	}

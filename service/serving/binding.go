@@ -268,10 +268,10 @@ func (core *Core) loadTexts(ctx context.Context, parts []store.Part) ([]store.Te
 	return changes, nil
 }
 
-// put commits what a group changed. Who keeps texts has no sides: no orchestrator begins sessions there.
+// put commits what a group changed.
 func (core *Core) put(ctx context.Context, group *group) error {
 	if keeper, is := core.config.Store.(store.Keeper); is && len(group.texts) > 0 {
-		return keeper.CommitBoth(ctx, group.list(), group.texts)
+		return keeper.CommitBoth(ctx, group.list(), group.texts, group.sides)
 	}
 	return store.CommitWith(ctx, core.config.Store, group.sides, group.list())
 }
@@ -284,5 +284,5 @@ func (core *Core) commitLoaded(ctx context.Context, renewed bool, changes []stor
 		}
 		changes = nil
 	}
-	return core.config.Store.(store.Keeper).CommitBoth(ctx, changes, texts)
+	return core.config.Store.(store.Keeper).CommitBoth(ctx, changes, texts, nil)
 }

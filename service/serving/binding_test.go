@@ -31,7 +31,7 @@ func (keeping *keeping) Texts(context.Context) ([]store.Text, error) {
 	return texts, nil
 }
 
-func (keeping *keeping) CommitBoth(ctx context.Context, changes []store.Change, texts []store.Text) error {
+func (keeping *keeping) CommitBoth(ctx context.Context, changes []store.Change, texts []store.Text, _ []store.Side) error {
 	if err := keeping.memory.Commit(ctx, false, changes); err != nil {
 		return err
 	}

@@ -18,7 +18,7 @@ import (
 
 const (
 	mostJobs    = 64        // that are committed together
-	mostChanges = 96        // after so many a group is committed, whoever waits: a transaction of etcd takes 128 unless it is told otherwise
+	mostChanges = 104       // after so many a group is committed, whoever waits: a transaction of etcd takes 128 unless it is told otherwise
 	mostBytes   = 512 << 10 // likewise: of 1.5 MiB
 )
 
@@ -39,12 +39,14 @@ type group struct {
 	textAt  map[string]int
 	notes   []store.Note // committed before the changes
 	taken   []uint64     // volumes that aren't staged any more, once the changes are committed
-	sides   []store.Side
+	sides   []store.Side // likewise
+	sideAt  map[string]int
+	late    int // how many of the sides are of rows that went with an earlier commit
 	confirm bool
 }
 
 func newGroup() *group {
-	return &group{changes: map[uint64]store.Change{}, textAt: map[string]int{}}
+	return &group{changes: map[uint64]store.Change{}, textAt: map[string]int{}, sideAt: map[string]int{}}
 }
 
 func (group *group) add(changes []store.Change) {
@@ -70,8 +72,19 @@ func (group *group) addTexts(texts []store.Text) {
 	}
 }
 
+// addSide adds a side.
+func (group *group) addSide(it store.Side) {
+	at, there := group.sideAt[it.Name]
+	if !there {
+		at, group.sides = len(group.sides), append(group.sides, store.Side{})
+		group.sideAt[it.Name] = at
+	}
+	group.sides[at] = it
+	group.bytes += len(it.Name) + len(it.Value) + 64
+}
+
 func (group *group) isFull() bool {
-	return len(group.order)+len(group.texts) >= mostChanges || group.bytes >= mostBytes
+	return len(group.order)+len(group.texts)+len(group.sides) >= mostChanges || group.bytes >= mostBytes
 }
 
 func (group *group) list() []store.Change {
@@ -152,11 +165,13 @@ func (core *Core) settle(group *group) {
 		}
 	}
 	if core.err == nil && (group.confirm || len(group.order)+len(group.texts)+len(group.sides) > 0) {
+		core.addLate(group)
 		if err := core.commit(group); err != nil {
 			core.err = err
 		}
 	}
 	if core.err == nil {
+		core.forgetLast(group)
 		for _, volume := range group.taken {
 			core.paths.Take(volume)
 		}
@@ -225,7 +240,7 @@ func (core *Core) load(ctx context.Context) error {
 		}
 		core.apply(changes)
 	}
-	if err := core.loadBegun(ctx); err != nil {
+	if err := core.loadSides(ctx); err != nil {
 		return err
 	}
 	return core.loadPaths(ctx)
@@ -324,7 +339,7 @@ func (core *Core) ask(group *group, request Request, number frames.Number) (aske
 		volume = reply.Volume
 	}
 	result := asked{known: core.known(number, volume), isFresh: touches(changes, volume)}
-	result.isAnothers = reply.Kind != request.Body.Kind() || !core.isLast(volume, number, request, result.isFresh)
+	result.isAnothers = reply.Kind != request.Body.Kind() || !core.isLast(group, volume, number, request, result.isFresh)
 	result.isOK = reply.Status == 0 && !result.isAnothers
 	if result.isOK && !result.isFresh && result.known.Row != nil {
 		core.config.Observer.Repeated(reply.Kind)

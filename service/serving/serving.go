@@ -139,6 +139,7 @@ type Core struct {
 	texts  *identities.Table // nil where there are none
 	begun  begun
 	last   map[uint64]last // by the volumes' ids
+	late   map[uint64]bool // volumes without a row, whose last calls are to be taken out of what stands beside the record
 }
 
 // Open makes the plugin of what the store has, commits what that changes, and begins to serve.
@@ -151,7 +152,7 @@ func Open(ctx context.Context, config Config) (*Core, error) {
 	}
 	core := &Core{
 		config: config, jobs: make(chan *job), stop: make(chan struct{}), done: make(chan struct{}), idle: make(chan struct{}),
-		turns: turns{queues: map[key][]chan struct{}{}}, acts: acts{running: map[key]*act{}, last: map[uint64]*act{}}, last: map[uint64]last{},
+		turns: turns{queues: map[key][]chan struct{}{}}, acts: acts{running: map[key]*act{}, last: map[uint64]*act{}},
 	}
 	core.acting, core.endActs = context.WithCancel(context.Background())
 	opened := make(chan error)

@@ -10,10 +10,12 @@ import (
 	"path/filepath"
 )
 
-// A Side is a small value that stands beside a record, under a name.
+// A Side is a small value that stands beside a record, under a name, or is taken out.
 type Side struct {
 	Name  string
 	Value []byte
+	First bool // the record doesn't change before this is kept, wherever a process ends: it waits for two syncs, one after the other
+	Out   bool // it is taken out: where a process ends meanwhile, it may be gone though the record is as before
 }
 
 // A Sided is a store that has sides too.
@@ -21,7 +23,7 @@ type Sided interface {
 	Store
 	// Sides gives all of them, by their names, as they were at the record's last commit. It fails with ErrBeside where they aren't this record's.
 	Sides(ctx context.Context) (map[string][]byte, error)
-	// CommitWith puts sides, and makes changes as Commit does, not anew: all of it, or nothing.
+	// CommitWith puts sides, of which no two have one name, and makes changes as Commit does, not anew: all of it, or nothing.
 	CommitWith(ctx context.Context, sides []Side, changes []Change) error
 }
 
@@ -51,15 +53,17 @@ const (
 	lastMade   = "SELECT coalesce(max(made), 0) FROM beside"
 	readBeside = "SELECT name, value FROM beside AS it WHERE made = (SELECT max(made) FROM beside WHERE name = it.name AND made <= ?)"
 	takeLater  = "DELETE FROM beside WHERE made > ?"
+	takeOut    = "DELETE FROM beside WHERE name = ?"
 	takeSide   = "DELETE FROM beside WHERE name = ?1 AND made < (SELECT max(made) FROM beside WHERE name = ?1)"
 	putSide    = "INSERT INTO beside (name, made, value) VALUES (?, ?, ?)"
 	counts     = 1 << 31 // user_version has as many values
+	markName   = ""      // of a side that each commit puts: whichever is taken out, the last commit is the greatest that one has
 )
 
 // beside are the sides of a record in SQLite, whose file may have no other table: a file of their own, with the table beside. A commit that puts sides has
-// a number, which the record's file has as its user_version, modulo 2^31. It is made in both files at once, and here each side keeps the value before. So
-// where a process ended between the two, what was here at the record's last commit is known, or is that of the commit before, of which nothing was told;
-// and a copy of one file alone is found, unless it is older by one commit.
+// a number, which the record's file has as its user_version, modulo 2^31. It is made in both files at once, or where a side is to be first, here before it
+// is there; and here each side keeps the value before. So where a process ended between the two, what was here at the record's last commit is known, or is
+// that of the commit before, of which nothing was told; and a copy of one file alone is found, unless it is older by one commit.
 type beside struct {
 	path   string
 	db     *sql.DB // nil while the file isn't there
@@ -126,7 +130,9 @@ func (beside *beside) load(ctx context.Context) (map[string][]byte, error) {
 		if err := rows.Scan(&name, &value); err != nil {
 			return nil, fmt.Errorf("%w: %v", ErrDevice, err)
 		}
-		sides[name] = value
+		if name != markName {
+			sides[name] = value
+		}
 	}
 	if err := rows.Err(); err != nil {
 		return nil, fmt.Errorf("%w: %v", ErrDevice, err)
@@ -134,22 +140,39 @@ func (beside *beside) load(ctx context.Context) (map[string][]byte, error) {
 	return sides, nil
 }
 
-// put puts sides as those of the commit after the record's last one.
-func (beside *beside) put(ctx context.Context, sides []Side) error {
-	return beside.writer.transact(ctx, beside.db, func(tx transaction) error {
+// commit puts sides as those of the commit after the record's last one.
+func (beside *beside) commit(ctx context.Context, sides []Side) error {
+	err := beside.writer.transact(ctx, beside.db, func(tx transaction) error {
 		if err := tx.run(takeLater, beside.made); err != nil {
 			return err
 		}
-		for _, side := range sides {
-			if err := tx.run(takeSide, side.Name); err != nil {
-				return err
+		for _, side := range append(sides[:len(sides):len(sides)], Side{Name: markName, Value: []byte{}}) {
+			var err error
+			if side.Out {
+				err = tx.run(takeOut, side.Name)
+			} else if err = tx.run(takeSide, side.Name); err == nil {
+				err = tx.run(putSide, side.Name, beside.made+1, side.Value)
 			}
-			if err := tx.run(putSide, side.Name, beside.made+1, side.Value); err != nil {
+			if err != nil {
 				return err
 			}
 		}
 		return nil
 	})
+	if err != nil {
+		return fmt.Errorf("%w: %v", ErrDevice, err)
+	}
+	return nil
+}
+
+// isFirst says whether one of the sides is to be kept before the record changes.
+func isFirst(sides []Side) bool {
+	for _, side := range sides {
+		if side.First {
+			return true
+		}
+	}
+	return false
 }
 
 // Sides gives the sides of the record's last commit.
@@ -162,23 +185,43 @@ func (store *sqlite) Sides(ctx context.Context) (map[string][]byte, error) {
 	return store.beside.load(ctx)
 }
 
-// CommitWith puts sides beside the record, and changes it, at once: each file has to reach the disk.
+// CommitWith puts sides beside the record, and changes it, at once, unless one is to be first: each file has to reach the disk.
 func (store *sqlite) CommitWith(ctx context.Context, sides []Side, changes []Change) error {
 	if len(sides) == 0 {
 		return store.Commit(ctx, false, changes)
 	}
+	return store.commitWith(ctx, sides, changes, func(transaction) error { return nil })
+}
+
+// commitWith makes more in the record's transaction.
+func (store *sqlite) commitWith(ctx context.Context, sides []Side, changes []Change, more func(transaction) error) error {
 	beside := &store.beside
+	if len(sides) == 0 {
+		return store.commit(ctx, false, changes, more)
+	}
 	if beside.db == nil {
 		if err := beside.open(ctx, store.db, true); err != nil {
 			return err
 		}
 	}
 	put := make(chan error, 1)
-	go func() { put <- beside.put(ctx, sides) }()
+	if isFirst(sides) {
+		if err := beside.commit(ctx, sides); err != nil {
+			return err
+		}
+		put <- nil
+	} else {
+		go func() { put <- beside.commit(ctx, sides) }()
+	}
 	mark := fmt.Sprintf("PRAGMA user_version = %d", (beside.made+1)%counts)
-	err := store.commit(ctx, false, changes, func(tx transaction) error { return tx.runOnce(mark) })
-	if failed := <-put; failed != nil && err == nil {
-		err = fmt.Errorf("%w: %v", ErrDevice, failed)
+	err := store.commit(ctx, false, changes, func(tx transaction) error {
+		if err := more(tx); err != nil {
+			return err
+		}
+		return tx.runOnce(mark)
+	})
+	if failed := <-put; err == nil {
+		err = failed
 	}
 	if err == nil {
 		beside.made++

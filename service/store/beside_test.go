@@ -69,6 +69,72 @@ func TestSides(t *testing.T) {
 	kept.Close()
 }
 
+// A side that is taken out is gone, whichever had the last commit before; others stay, and what comes later is kept as ever.
+func TestSidesTakenOut(t *testing.T) {
+	path := filepath.Join(t.TempDir(), "s.db")
+	kept := sided(t, path)
+	put(t, kept, "a", "1", "b", "1")
+	for at := 2; at < 7; at++ {
+		put(t, kept, "c", fmt.Sprint(at))
+		for _, sides := range [][]Side{{{Name: "c", Out: true}, {Name: "none", Out: true}}, {{Name: "none", Out: true}}} {
+			if err := kept.CommitWith(ctx, sides, some); err != nil {
+				t.Fatal(err)
+			}
+		}
+		has(t, kept, "map[a:1 b:1]")
+		kept.Close()
+		kept = sided(t, path)
+		has(t, kept, "map[a:1 b:1]")
+	}
+	put(t, kept, "c", "8")
+	has(t, kept, "map[a:1 b:1 c:8]")
+	kept.Close()
+}
+
+// Where a side that is to be first can't be kept, the record doesn't change; where it alone is kept, that is the side of a commit which wasn't made.
+func TestSidesFirst(t *testing.T) {
+	path := filepath.Join(t.TempDir(), "s.db")
+	kept := sided(t, path)
+	first := func(value string, change byte) error {
+		return kept.CommitWith(ctx, []Side{{Name: "a", Value: []byte(value), First: true}}, []Change{{Key: 0, Value: []byte{change}}})
+	}
+	wants := func(value string, change byte) {
+		t.Helper()
+		has(t, kept, "map[a:"+value+"]")
+		if parts, err := kept.Load(ctx); err != nil || len(parts) != 1 || parts[0].Value[0] != change {
+			t.Errorf("the parts are %v, %v", parts, err)
+		}
+	}
+	if err := first("1", 1); err != nil {
+		t.Fatal(err)
+	}
+	wants("1", 1)
+	beside := &kept.(*sqlite).beside
+	if err := beside.commit(ctx, []Side{{Name: "a", Value: []byte("2"), First: true}}); err != nil {
+		t.Fatal(err)
+	}
+	kept.Close() // as if it had been killed before the record's commit
+	kept = sided(t, path)
+	wants("1", 1)
+	if err := first("3", 3); err != nil {
+		t.Fatal(err)
+	}
+	wants("3", 3)
+	beside = &kept.(*sqlite).beside
+	beside.writer.close()
+	beside.db.Close()
+	if err := first("4", 4); !errors.Is(err, ErrDevice) {
+		t.Errorf("without a file of sides: %v", err)
+	}
+	if parts, err := kept.Load(ctx); err != nil || parts[0].Value[0] != 3 {
+		t.Errorf("the parts are %v, %v", parts, err)
+	}
+	kept.Close()
+	kept = sided(t, path)
+	wants("3", 3)
+	kept.Close()
+}
+
 // Where a process ended between the two commits, the sides are those of the record's last commit, or of the one before; of files of another time it is
 // said so.
 func TestOtherTimes(t *testing.T) {

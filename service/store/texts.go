@@ -18,8 +18,8 @@ type Keeper interface {
 	Store
 	// Texts gives all of them, by rising key.
 	Texts(ctx context.Context) ([]Text, error)
-	// CommitBoth makes all changes of both, or none, as Commit does.
-	CommitBoth(ctx context.Context, changes []Change, texts []Text) error
+	// CommitBoth makes all changes of both, or none, as Commit does, and puts sides, as CommitWith does.
+	CommitBoth(ctx context.Context, changes []Change, texts []Text, sides []Side) error
 }
 
 const (
@@ -86,8 +86,8 @@ func (keeper keeper) Texts(ctx context.Context) ([]Text, error) {
 	return texts, nil
 }
 
-func (keeper keeper) CommitBoth(ctx context.Context, changes []Change, texts []Text) error {
-	return keeper.commit(ctx, false, changes, func(tx transaction) error {
+func (keeper keeper) CommitBoth(ctx context.Context, changes []Change, texts []Text, sides []Side) error {
+	return keeper.commitWith(ctx, sides, changes, func(tx transaction) error {
 		for _, text := range texts {
 			var err error
 			if text.Out {

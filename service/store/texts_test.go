@@ -35,10 +35,14 @@ func TestKeeper(t *testing.T) {
 		{nil, []Text{{Key: "a", Value: "x"}, {Key: "c", Value: "y"}, {Key: "z", Out: true}}},
 		{[]Change{{Key: 1, Value: []byte("r")}}, []Text{{Key: "c", Out: true}}},
 	} {
-		if err := kept.CommitBoth(ctx, step.changes, step.texts); err != nil {
+		if err := kept.CommitBoth(ctx, step.changes, step.texts, nil); err != nil {
 			t.Fatal(err)
 		}
 	}
+	if err := kept.CommitBoth(ctx, nil, []Text{{Key: "z", Out: true}}, []Side{{Name: "s", Value: []byte("1"), First: true}}); err != nil {
+		t.Fatal(err)
+	}
+	has(t, kept.(Sided), "map[s:1]")
 	record, texts := "[{0 [104]} {1 [114]}]", []Text{{Key: "a", Value: "x"}, {Key: "b", Value: "\u00e9 \x00\""}}
 	wants(record, texts)
 	if err := kept.Close(); err != nil {

@@ -299,7 +299,7 @@ func full(t *testing.T, path string) {
 		row = append(number(number(row, 1), id), 0x81, 0)
 		changes = append(changes, store.Change{Key: id, Value: append(number(row, id), 0)})
 	}
-	if err := kept.CommitBoth(context.Background(), changes, []store.Text{identities.Mark(), identities.Put(1, "kept")}); err != nil {
+	if err := kept.CommitBoth(context.Background(), changes, []store.Text{identities.Mark(), identities.Put(1, "kept")}, nil); err != nil {
 		t.Fatal(err)
 	}
 	kept.Close()

@@ -44,8 +44,8 @@ func (killing *killing) Commit(ctx context.Context, anew bool, changes []store.C
 	return killing.around(len(changes), func() error { return killing.Keeper.Commit(ctx, anew, changes) })
 }
 
-func (killing *killing) CommitBoth(ctx context.Context, changes []store.Change, texts []store.Text) error {
-	return killing.around(len(changes)+len(texts), func() error { return killing.Keeper.CommitBoth(ctx, changes, texts) })
+func (killing *killing) CommitBoth(ctx context.Context, changes []store.Change, texts []store.Text, sides []store.Side) error {
+	return killing.around(len(changes)+len(texts), func() error { return killing.Keeper.CommitBoth(ctx, changes, texts, sides) })
 }
 
 func (killing *killing) around(count int, commit func() error) error {

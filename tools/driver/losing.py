@@ -76,7 +76,7 @@ def comes_again(box, over):
     """The lost node's store is refused; a new one finds late calls stale, and serves the sessions that come."""
     old = box.node(session=2, serves=False)
     wanted("the lost node's store", (old.close(), old.said), (1, b"csi-driver: store of an earlier session\n"))
-    for name in ("n1.db", "n1.db.driver"):
+    for name in ("n1.db", "n1.db.driver", "n1.db.beside"):
         os.remove(box.at(name))
     new = box.node(session=2)
     for late in (("NodePublishVolume", publish(1, "/t"), (1, 4)), ("NodeStageVolume", stage(1), (1, 3)), ("NodeUnstageVolume", unstage(1), (1, 9))):
@@ -228,7 +228,7 @@ class Turns:
         for it in (controller, *drivers.values()):
             it.kill()
         audited(box, tuple(drivers))
-        for name in (f"{dead}.db{more}" for more in ("", "-wal", "-shm", ".driver", ".driver-wal", ".driver-shm")):
+        for name in (f"{dead}.db{more}" for more in ("", "-wal", "-shm", ".driver", ".driver-wal", ".driver-shm", ".beside", ".beside-wal", ".beside-shm")):
             if os.path.exists(box.at(name)):
                 os.remove(box.at(name))
         self.sessions[dead] = box.record("orchestrator.db")["session"]

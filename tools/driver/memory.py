@@ -40,7 +40,7 @@ class Refusing:
     def run(self, which):
         """Refuses this allocation, or none where it is 0. Whether that was at the start, and how often it was in a call."""
         box, path = self.box, self.box.at(self.name)
-        for name in (path, f"{path}.driver"):
+        for name in (path, f"{path}.driver", f"{path}.beside"):
             if os.path.exists(name):
                 os.remove(name)
         stores.make(path, self.parts)

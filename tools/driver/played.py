@@ -116,9 +116,7 @@ class Compared:
         self.capacities = {}
         self.live = {}  # whether each volume that a controller made is there; those that it has forgotten aren't listed
         self.heard = 0  # the latest session
-        self.numbers = {}  # of each volume the number of its last call
-        self.last = {}  # likewise, with the call's frame, as far as this driver has seen it
-        self.unsure = {}  # of volumes the number of a call of which it isn't known whether this driver, or the one before, has seen it first
+        self.last = {}  # of each volume the number of its last call, with that call's frame
         self.statuses = {}
         self.lost = 0  # calls that got no reply, since the driver was killed
 
@@ -130,8 +128,7 @@ class Compared:
         kind, at, frame, request = self.drawing.draw()
         of_kind, status, volume, detail = reply_to(self.replay, frame)
         right = (status, detail) if of_kind == frames.KINDS[kind] else (9, "number")
-        about, plain = volume or int(getattr(request, "volume_id", 0)), right
-        if self.is_others(kind, at, frame, about, right):
+        if self.is_others(kind, at, frame, volume or int(getattr(request, "volume_id", 0)), right):
             right = (9, "number")
         call = self.driver.start(kind, request, at)
         if killed is not None:
@@ -141,16 +138,11 @@ class Compared:
             timer.join()
             self.driver.kill()
             self.driver = self.begin()
-            self.last.clear()
             if came[0] == 14:
                 self.lost += 1
                 came = self.driver.ask(kind, request, at)
-                self.unsure[about] = at
-                right = plain  # the new driver has seen no other call of that number
         else:
             came = ended(call)
-        if self.unsure.get(about) == at and came[:2] == (9, "number"):
-            right = (9, "number")
         wanted(f"call {self.drawing.count}, {kind} {at}: {request!s}", came[:2], right)
         self.statuses[right] = self.statuses.get(right, 0) + 1
         if kind == "CreateVolume" and right[0] == 0:
@@ -167,10 +159,9 @@ class Compared:
             self.live[volume] = False
         if right[0] == 10 or right == (9, "number") or not volume or not self.of_node and volume not in self.live:
             return False
-        if at > self.numbers.get(volume, (0, 0)):
-            self.numbers[volume] = at
+        number, last = self.last.get(volume, ((0, 0), None))
+        if at > number:
             self.last[volume] = at, frame
-        number, last = self.last.get(volume, (None, None))
         return number == at and last != frame
 
     def made(self, request, volume, response):

@@ -6,7 +6,7 @@ import time
 
 from .faults import Fault
 from .parts import Found
-from .system import PREFIX, coded
+from .system import PLACES, PREFIX, coded
 
 
 class Break:
@@ -92,4 +92,17 @@ class Copied(Break):
         self.changed = True
 
 
-BREAKS = {"unconditional": Unconditional, "granted": Granted, "unnamed": Unnamed, "played": Played, "unfenced": Unfenced, "copied": Copied}
+class Untokened(Copied):
+    """likewise, where a session is begun by its number alone, not by whose opening it is: both begin the same one"""
+
+    edit = "untokened"  # without the clock, too, by which numbers mostly differ
+
+    def copy(self, system, tell):
+        super().copy(system, tell)
+        for host in PLACES["orchestrator"]:
+            system.parts[f"orchestrator-{host}"].kill()
+
+
+BREAKS = {
+    "unconditional": Unconditional, "granted": Granted, "unnamed": Unnamed, "played": Played, "unfenced": Unfenced, "copied": Copied, "untokened": Untokened,
+}

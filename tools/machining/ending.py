@@ -19,7 +19,8 @@ LINES = re.compile(
 
 def at_rest(system):
     """Waits until nothing is wanted of any volume: all volumes then, by name."""
-    until = time.monotonic() + REST
+    within = REST * system.patience
+    until = time.monotonic() + within
     wanted = None
     while time.monotonic() < until:
         wanted = volumes_of(system, CLIENTS[0], "--wanted")
@@ -29,9 +30,9 @@ def at_rest(system):
                 return volumes
         time.sleep(0.2)
     if wanted is None:
-        raise Found(f"no orchestrator answers within {REST} seconds")
+        raise Found(f"no orchestrator answers within {within:.0f} seconds")
     told = "; ".join(f"{name}: {it['goal']}, held up by {it['held_up_by']}, {it['trouble']}" for name, it in wanted.items())
-    raise Found(f"not at rest within {REST} seconds: {told}")
+    raise Found(f"not at rest within {within:.0f} seconds: {told}")
 
 
 def not_calm(clients):

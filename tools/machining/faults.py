@@ -125,9 +125,10 @@ class Faults:
         for end in list(self.undo):
             self.end(end)
         if self.losing:
-            self.losing.join(60)
+            within = 60 * self.system.patience
+            self.losing.join(within)
             if self.losing.is_alive():
-                raise Found("a lost node doesn't join again within 60 seconds")
+                raise Found(f"a lost node doesn't join again within {within:.0f} seconds")
         self.judge_played()
 
     # ---- the wire

@@ -19,7 +19,7 @@ from machining.system import CLIENTS, PLACES, PORT, System  # noqa: E402
 
 
 class Run:
-    """A run: `asked` has `seed`, `seconds`, `calm`, `broken`, and the paths `top`, `programs`, `wire`, `record` and `folder`."""
+    """A run: `asked` has `seed`, `seconds`, `patience`, `calm`, `broken`, and the paths `top`, `programs`, `wire`, `record` and `folder`."""
 
     def __init__(self, asked):
         self.asked = asked
@@ -35,7 +35,7 @@ class Run:
 
     def play(self):
         asked = self.asked
-        self.system = System(asked["top"], asked["programs"], asked["wire"], asked["folder"], asked["seed"])
+        self.system = System(asked["top"], asked["programs"], asked["wire"], asked["folder"], asked["seed"], asked["patience"])
         if self.broken:
             self.broken.prepare(self.system)
         elif self.drawn.random() < 0.25:
@@ -65,7 +65,7 @@ class Run:
             client.start()
         carried.run(since, until)
         for client in self.clients:
-            client.join(60)
+            client.join(60 * asked["patience"])
         carried.heal()
         self.tell("all is healed")
         self.found += carried.found

@@ -33,11 +33,11 @@ def coded(text):
 
 
 class System:
-    """A set in a folder. `programs` has the service's programs, `top` is the repository."""
+    """A set in a folder. `programs` has the service's programs, `top` is the repository; what takes time may take `patience` times as long."""
 
-    def __init__(self, top, programs, wire, folder, seed):
+    def __init__(self, top, programs, wire, folder, seed, patience=1):
         self.top, self.programs, self.folder = top, programs, folder
-        self.seed = seed
+        self.seed, self.patience = seed, patience
         os.environ["TUFAYON_WORLD"] = self.made("world")
         self.wire = Wire(wire, seed)
         self.parts = {}
@@ -140,13 +140,20 @@ class System:
             if name not in MEMBERS:
                 part.start()
         self.until(lambda: all(self.leader(role) for role in PLACES), "an orchestrator and a controller lead")
+        self.until(self.all_ready, "each plugin has begun the session")
 
-    def until(self, holds, what, within=START):
+    def until(self, holds, what):
+        within = START * self.patience
         until = time.monotonic() + within
         while not holds():
             if time.monotonic() > until:
-                raise Found(f"not within {within} seconds: {what}")
+                raise Found(f"not within {within:.0f} seconds: {what}")
             time.sleep(0.1)
+
+    def all_ready(self):
+        """Whether the orchestrator that leads has begun its session at the controller and each node."""
+        status, output, _ = self.control(CLIENTS[0], "nodes")
+        return status == 0 and all(it["connection"] == "READY" and not it["trouble"] for it in json.loads(output)["nodes"])
 
     def ask(self, member, call, within=2, **request):
         """What the gateway of a member of etcd answers to a call."""
@@ -211,7 +218,7 @@ class System:
         """All programs but etcd end by themselves."""
         for name, part in self.parts.items():
             if name not in MEMBERS:
-                part.end(END)
+                part.end(END * self.patience)
 
     def keep_disks(self):
         """Puts what is on the nodes' disks, which go with this process, into the folder `disks`."""

@@ -142,6 +142,67 @@ func TestStoresPutBack(t *testing.T) {
 	stop()
 }
 
+// Two services over copies of one store begin sessions of one number: one goes on, and the other one, whose opening isn't that which began it, ends before
+// it sends anything.
+func TestSessionBegunTwice(t *testing.T) {
+	ctx, cancel := context.WithTimeout(context.Background(), 6*within)
+	defer cancel()
+	folder := t.TempDir()
+	made := &shard{files: &files{t: t, folder: folder, address: "unix://" + filepath.Join(folder, "o.sock"), process: "process.json"}}
+	made.write(made.process, fmt.Sprintf(`{"set": "set.json", "store": "o.db", "listen": %q}`, made.address))
+	made.list("n1", "n2")
+	made.start()
+	defer made.stop()
+	request := &wire.CreateRequest{Name: "v", Required: 10, Capabilities: []*wire.Capability{block}, Wait: wire.Wait_AT_REST}
+	if volume, err := made.client.Create(ctx, request); err != nil || !volume.Reached {
+		t.Fatalf("%v, %v", volume, err)
+	}
+	session := func() uint64 {
+		t.Helper()
+		nodes, err := made.client.Nodes(ctx, &wire.NodesRequest{})
+		if err != nil {
+			t.Fatal(err)
+		}
+		return nodes.Session
+	}
+	for ahead := uint64(time.Now().Add(time.Minute).Unix()); session() < ahead; { // of the clock, by which the two would differ
+		if _, err := made.client.Restart(ctx, &wire.RestartRequest{}); err != nil {
+			t.Fatal(err)
+		}
+	}
+	last := session()
+	made.ends[len(made.ends)-1]()
+	second := &files{t: t, folder: folder, process: "second.json"}
+	for name, content := range made.copies("o") {
+		made.write("second"+strings.TrimPrefix(name, "o"), string(content))
+	}
+	made.write(second.process, fmt.Sprintf(`{"set": "set.json", "store": "second.db", "listen": "unix://%s"}`, made.path("second.sock")))
+	client, stop := made.files.start(true)
+	made.client, made.ends[len(made.ends)-1] = client, func() {
+		if status := stop(); status != 0 {
+			t.Errorf("it ended with %d", status)
+		}
+	}
+	if now := session(); now != last+1 {
+		t.Errorf("session %d follows %d", now, last)
+	}
+	use := func(node string) {
+		t.Helper()
+		volume, err := client.Use(ctx, &wire.UseRequest{Name: "v", Node: node, Target: "/a", Capability: block, Wait: wire.Wait_AT_REST})
+		made.wants(volume, err, node)
+	}
+	use("n1") // so that each of them has begun it
+	if _, err := client.Stop(ctx, &wire.StopRequest{Name: "v", Node: "n1", Target: "/a", Wait: wire.Wait_AT_REST}); err != nil {
+		t.Fatal(err)
+	}
+	limited, cancel := context.WithTimeout(ctx, within)
+	defer cancel()
+	if err := run(limited, []string{made.path(second.process)}, os.Stdout); !errors.Is(err, store.ErrOlder) || program.StatusOf(err) != 1 {
+		t.Errorf("the second one: %v", err)
+	}
+	use("n2")
+}
+
 // of reads a store's parts, which nobody else has open.
 func (made *files) of(name string) (store.Store, []store.Part) {
 	made.t.Helper()

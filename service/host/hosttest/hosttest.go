@@ -64,7 +64,9 @@ func (kept *Store) CommitWith(ctx context.Context, sides []store.Side, changes [
 	kept.mutex.Lock()
 	defer kept.mutex.Unlock()
 	for _, side := range sides {
-		kept.sides[side.Name] = side.Value
+		if delete(kept.sides, side.Name); !side.Out {
+			kept.sides[side.Name] = side.Value
+		}
 	}
 	return nil
 }
