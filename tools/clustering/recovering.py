@@ -206,7 +206,7 @@ class Recoveries:
         """Copies the orchestrator's store, while it is at rest."""
         if self.cluster.orchestrator.is_up and not self.cluster.orchestrator.is_asleep:
             self.cluster.end(ORCHESTRATOR)
-            self.copy = shutil.copy(self.cluster.orchestrator.at(""), f"{self.cluster.folder}/copy.db")
+            self.copy = shutil.copy(self.cluster.orchestrator.at(""), f"{self.cluster.folder}/kept.db")
             self.cluster.start(ORCHESTRATOR)
 
     def older_copy(self):
