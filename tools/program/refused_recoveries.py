@@ -138,6 +138,18 @@ def no_stores(box):
             wanted(f"{what} as {name}: the parts", it.parts(), parts)
 
 
+def blank(box):
+    """A file that a plugin would make a new store of has no record: it isn't a store that was lost, and nothing else changes."""
+    can_recover(box)
+    for place in (1, 2, 3):
+        for size in (0, 1, 4096):
+            folder = f"{place} {size}"
+            os.mkdir(box.at(folder))
+            it = Set.made(type(box)(box.program, box.at(folder)), CONTROLLER_PARTS, [N1, N2], LISTED)
+            it.box.put(it.names[place - 1], bytes(size))
+            one_of(it, f"{size} bytes as store {place}", NOT_OPENED, ended(1, f"record fault at 0, store {place}"))
+
+
 def missing(box):
     """A store that is missing isn't made."""
     can_recover(box)
@@ -242,6 +254,7 @@ ROWS = [
     ("damaged parts", damaged),
     ("stores of others", of_others),
     ("files that are no store", no_stores),
+    ("files that are blank", blank),
     ("stores that are missing", missing),
     ("a store in use", in_use),
     ("one file twice", twice),
