@@ -42,12 +42,12 @@ class Recoveries:
         session, held_back = self.older_copy() if self.copy and self.drawn.random() < 0.5 else (self.cluster.session, [])
         self.lose_store()
         given, listed = self.choose(self.off_for_good())
-        words = self.words(given, listed, self.drawn.choice((0, session)) if not held_back else session)
-        self.refused(words, given)
+        command = self.command(given, listed, self.drawn.choice((0, session)) if not held_back else session)
+        self.refused(command, given)
         for _ in range(self.drawn.choice((0, 0, 1, MOST_CUTS))):
-            self.cut_off(words, given)
-        made = self.whole(words, given)
-        self.goes_on(made.session, listed, json.loads(made.line)["wanted"])
+            self.cut_off(command, given)
+        made = self.whole(command, given)
+        self.goes_on(made.session, command.listed, json.loads(made.line)["wanted"])
         self.cluster.pending += held_back
 
     def stop_all(self):
@@ -92,54 +92,57 @@ class Recoveries:
                 self.cluster.gone(name)
         given = self.nodes()
         self.drawn.shuffle(given)
-        listed = self.run.changes.some()
-        return given, listed + [node for node in self.used(given) if node not in listed]
+        return given, self.with_used(given, self.run.changes.some())
+
+    def with_used(self, given, listed):
+        """A list of nodes, and those at which something is staged."""
+        return listed + [node for node in self.used(given) if node not in listed]
 
     def used(self, given):
         """The given nodes at which something is staged."""
         return [name.partition(":")[2] for name in given if any(it["staged"] for it in json.loads(self.cluster.parts[name].record())["volumes"])]
 
-    # ---- the command
+    # ---- its runs
 
-    def words(self, given, listed, session):
+    def command(self, given, listed, session):
         names = [self.cluster.parts[name].store for name in (CONTROLLER, *given)]
-        return Words(self.cluster, self.new, listed, session, names)
+        return Command(self.cluster, self.new, listed, session, names)
 
-    def parts(self, words):
+    def parts(self, command):
         """The parts of the new store, and of those that are given."""
-        return [parts_beside(self.box, name) for name in (self.new, *words.names)]
+        return [parts_beside(self.box, name) for name in (self.new, *command.names)]
 
-    def recovery(self, words, parts):
-        return Recovery(words.listed, words.session, parts[1], parts[2:])
+    def recovery(self, command, parts):
+        return Recovery(command.listed, command.session, parts[1], parts[2:])
 
-    def refused(self, words, given):
+    def refused(self, command, given):
         """It is refused, and changes nothing, where its list leaves out a node that is in use."""
         for node in self.used(given)[:1]:
-            others = Words(self.cluster, self.new, [it for it in words.listed if it != node], words.session, words.names)
+            others = Command(self.cluster, self.new, [it for it in command.listed if it != node], command.session, command.names)
             before = self.parts(others)
             came = others.run()
             if came != (1, b"", b"csi-replay: node in use\n") or self.parts(others) != before:
                 raise Found(f"recover with {others.listed}, without {node!r}, ended as {came}, or changed a store")
 
-    def cut_off(self, words, given):
+    def cut_off(self, command, given):
         """It is killed at some moment: each store is as it was or raised. Then calls may come to the plugins, before it is run again."""
-        before = self.parts(words)
+        before = self.parts(command)
         if before[0]:
             return
-        made = self.recovery(words, before).made()
+        made = self.recovery(command, before).made()
         name = self.drawn.choice((CONTROLLER, *given))
-        words.kill(self.cluster.parts[name], self.drawn.uniform(0, 0.001))
-        after = self.parts(words)
+        command.kill(self.cluster.parts[name], self.drawn.uniform(0, 0.001))
+        after = self.parts(command)
         self.cuts += 1
-        for store, came, *right in zip((self.new, *words.names), after, before, [made.new, *made.raised]):
+        for store, came, *right in zip((self.new, *command.names), after, before, [made.new, *made.raised]):
             if came not in right:
                 raise Found(f"recover was killed, and {store} has neither the parts of before nor those of behind")
         self.tell_raised(given, [came != was for came, was in zip(after[1:], before[1:])], made.session)
         if not after[0] and self.drawn.random() < 0.5:
-            self.late_calls(given)
+            self.late_calls(command, given)
 
-    def late_calls(self, given):
-        """Some plugins run, calls of before come to them, and they end."""
+    def late_calls(self, command, given):
+        """Some plugins run, calls of before come to them, and they end. What is staged by now can't be left out of the list."""
         cluster = self.cluster
         up = [name for name in (CONTROLLER, *given) if self.drawn.random() < 0.7]
         for name in up:
@@ -149,28 +152,29 @@ class Recoveries:
             cluster.deliver(number)
         for name in up:
             cluster.end(name)
+        command.listed = self.with_used(given, command.listed)
 
-    def whole(self, words, given):
+    def whole(self, command, given):
         """It is run to its end: each store has what it has to have. Where it was killed behind its last commit all is done."""
-        before = self.parts(words)
-        recovery = self.recovery(words, before)
+        before = self.parts(command)
+        recovery = self.recovery(command, before)
         if before[0]:
-            return self.done(words, recovery, before)
+            return self.done(command, recovery, before)
         if refusals := list(recovery.refusals()):
             raise Found(f"after runs of one orchestrator a recovery is to be refused: {refusals}")
         made = recovery.made()
-        if (came := words.run()) != (0, made.line, b""):
+        if (came := command.run()) != (0, made.line, b""):
             raise Found(f"recover ended as {came}, and should print {made.line}")
-        for store, found, right in zip((self.new, *words.names), self.parts(words), [made.new, *made.raised]):
+        for store, found, right in zip((self.new, *command.names), self.parts(command), [made.new, *made.raised]):
             if found != right:
                 raise Found(f"once it was recovered, {store} has the parts {found}, and should have {right}")
-        self.tell_raised(given, [True] * len(words.names), made.session)
+        self.tell_raised(given, [True] * len(command.names), made.session)
         return made
 
-    def done(self, words, recovery, before):
+    def done(self, command, recovery, before):
         """A recovery of which nothing is left to be done is refused."""
-        came = words.run()
-        if came != (1, b"", b"csi-replay: store not new\n") or self.parts(words) != before:
+        came = command.run()
+        if came != (1, b"", b"csi-replay: store not new\n") or self.parts(command) != before:
             raise Found(f"a recovery that was done, run once more, ended as {came}, or changed a store")
         session = recovery.controller.session
         recovery.session = session
@@ -213,10 +217,10 @@ class Recoveries:
         """Somebody starts an older copy first, perhaps with a session by a clock, and has it send calls of which none comes before the recovery: the greatest
         session that is known then, and the numbers of these frames."""
         cluster, session, sent = self.cluster, self.cluster.session, []
-        words = [str(session + self.drawn.randint(1, CLOCK))] if self.drawn.random() < 0.5 else []
+        by_clock = [str(session + self.drawn.randint(1, CLOCK))] if self.drawn.random() < 0.5 else []
         shutil.copy(self.copy, f"{cluster.folder}/old.db")
-        cluster.put("nodes", {"greatest": 1, "nodes": [{"id": node, "slots": 0} for node in cluster.ever_listed]})
-        old = Orchestrator(cluster.program, cluster.folder, "an older copy", "orchestrator", "old.db", "nodes", *words)
+        cluster.put("nodes", {"greatest": 1, "nodes": [{"id": node, "slots": 0} for node in sorted(cluster.ever_listed)]})
+        old = Orchestrator(cluster.program, cluster.folder, "an older copy", "orchestrator", "old.db", "nodes", *by_clock)
         old.start()
         first = old.take()
         for name in [*first["wanted"], *(None for _ in range(COPIED))][:COPIED]:
@@ -230,8 +234,8 @@ class Recoveries:
         return max(session, first["session"]), sent
 
 
-class Words:
-    """A run of the command over stores of a cluster."""
+class Command:
+    """`recover`, with its words, over stores of a cluster."""
 
     def __init__(self, cluster, new, listed, session, names):
         self.cluster, self.new, self.listed, self.session, self.names = cluster, new, listed, session, names
