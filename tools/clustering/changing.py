@@ -52,6 +52,11 @@ class Changes(Watcher):
         self.run.back.pop(name, None)
         self.told_at[name.partition(":")[2]] = self.run.at + int(10 ** self.drawn.uniform(0, 2.2))
 
+    def forget(self, name):
+        """A node is no more, and nobody is told."""
+        self.run.back.pop(name, None)
+        self.told_at.pop(name.partition(":")[2], None)
+
     def give_up(self):
         """Tells the orchestrator of nodes that are dead since a while."""
         if self.run.is_idle(ORCHESTRATOR):

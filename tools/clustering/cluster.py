@@ -211,12 +211,16 @@ class Cluster:
             if goal and (use := goal.get("use")) and use["node"] == node:
                 self.goals[other] = {"stop": {"name": other, "node": node, "target": use["target"]}}
         if name in self.parts and self.parts[name].is_dead:
-            self.lost_stores[node] = self.parts.pop(name).store
-            self.since_start.discard(name)
-            self.history.lost(name)
-            for watcher in self.watchers:
-                watcher.lost(name)
+            self.gone(name)
         return answer
+
+    def gone(self, name):
+        """A node is no more."""
+        self.lost_stores[name.partition(":")[2]] = self.parts.pop(name).store
+        self.since_start.discard(name)
+        self.history.lost(name)
+        for watcher in self.watchers:
+            watcher.lost(name)
 
     # ---- what is given to a part: events to the orchestrator, numbers of calls to a plugin
 

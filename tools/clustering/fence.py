@@ -21,9 +21,7 @@ class Fence:
         if call.number[0] < self.session:
             return self.want(call, frame, stale(call))
         if call.number[0] > self.session:
-            self.session = call.number[0]
-            self.forgotten |= self.deleted
-            self.last, self.unsure = {}, set()
+            self.begin(call.number[0])
         volume = self.ids.get(call.name) if call.name else call.volume
         if volume in self.forgotten:
             volume = None
@@ -36,6 +34,12 @@ class Fence:
         if frame == stale(call) and call.name not in self.unsure and (call.name or volume is not None):
             raise Found(f"{call} got the reply {read(frame)}, and the last call of the volume was {number}")
         return self.keep(call, volume, frame)
+
+    def begin(self, session):
+        """A session begins, by a call or a recovery."""
+        self.session = session
+        self.forgotten |= self.deleted
+        self.last, self.unsure = {}, set()
 
     def want(self, call, frame, right):
         if frame is not None and right is not None and frame != right:

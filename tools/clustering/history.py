@@ -29,6 +29,7 @@ class History:
         self.events = []
         self.outcomes = []
         self.unheard = 0
+        self.until = None  # how many events and frames a schedule tells: those before the first recovery, of which it has no event
 
     def sent(self, frame):
         """The number of a frame that is sent now; None: nobody has it."""
@@ -56,9 +57,14 @@ class History:
         """A plugin is no more."""
         self.former.setdefault(plugin, []).extend(self.delivered.pop(plugin, ()))
 
+    def compared(self):
+        """The events that a schedule tells, their outcomes, and the frames that were sent by then."""
+        events, frames = self.until or (len(self.events), len(self.frames))
+        return self.events[:events], self.outcomes[:events], self.frames[:frames]
+
     def schedule(self):
         """One event a line."""
-        events = ",\n  ".join(json.dumps(it, ensure_ascii=False) for it in self.events)
+        events = ",\n  ".join(json.dumps(it, ensure_ascii=False) for it in self.compared()[0])
         return f'{{"config":{json.dumps(self.config, ensure_ascii=False)},\n "events":[\n  {events}\n]}}\n'
 
     def told(self):
@@ -73,14 +79,15 @@ class History:
         with open(path, "w", encoding="utf-8") as file:
             file.write(self.schedule())
         report = json.loads(said(program, "run", path))
-        for at, (right, came) in enumerate(zip(report["events"], self.outcomes), 1):
+        _, outcomes, sent = self.compared()
+        for at, (right, came) in enumerate(zip(report["events"], outcomes), 1):
             if right != came:
                 raise Found(f"event {at}, {json.dumps(self.events[at - 1])[:200]}: the processes say `{came}`, a run of the schedule `{right}`")
         frames = split(said(program, "frames", path))[0]
-        for number, (right, came) in enumerate(zip(frames, self.frames), 1):
+        for number, (right, came) in enumerate(zip(frames, sent), 1):
             if came not in (None, right):
                 raise Found(f"frame {number}: the processes sent {came.hex()}, a run of the schedule {right.hex()}")
-        counts, right = (len(self.outcomes), len(self.frames)), (len(report["events"]), len(frames))
+        counts, right = (len(outcomes), len(sent)), (len(report["events"]), len(frames))
         if counts != right:
             raise Found(f"the processes had {counts[0]} events and sent {counts[1]} frames, a run of the schedule has {right[0]} and {right[1]}")
         return report

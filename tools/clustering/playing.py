@@ -3,12 +3,13 @@ import json
 import random
 from dataclasses import dataclass
 
-from .breaking import Breaks
+from .broken_recoveries import BrokenRecoveries
 from .changing import Changes
 from .cluster import CONTROLLER, ORCHESTRATOR, Cluster, numbers_of
 from .drawing import Commands, configuration, nonsense
 from .parts import Found
 from .reading import read
+from .recovering import Recoveries
 from .watching import Watch
 
 AUDIT_EVERY, BROKEN_EVERY = 200, 20  # turns between audits, and where something is broken, which may mend itself
@@ -34,11 +35,15 @@ class Counts:
     audits: int = 0
     repeats: int = 0
     settled: int = 0
+    recoveries: int = 0
+    cut_off: int = 0  # recoveries that were killed
+    undone: int = 0  # volumes of which something was wanted once it was recovered
+    copies: int = 0  # of the orchestrator's store, that were started before a recovery
     broken: int = 0  # how many breaks changed something
 
 
 class Run:
-    def __init__(self, program, folder, seed, turns, kills, broken=None):
+    def __init__(self, program, folder, seed, turns, kills, recoveries=0, broken=None):
         self.drawn = drawn = random.Random(seed)
         config = configuration(drawn)
         self.folder = folder
@@ -47,7 +52,9 @@ class Run:
         self.watch = Watch(self.cluster, drawn)
         self.turns, self.audit_every = turns, BROKEN_EVERY if broken else AUDIT_EVERY
         self.kills = set(drawn.sample(range(turns), min(kills, turns)))
-        self.break_name, self.breaks = broken, Breaks(self.cluster, drawn)
+        self.recoveries, self.copies = (set(drawn.sample(range(turns), recoveries)) if recoveries else set() for _ in range(2))
+        self.recovering = Recoveries(self)
+        self.break_name, self.breaks = broken, BrokenRecoveries(self.cluster, drawn, self.recovering)
         self.late = []  # frames that are delayed for long: when they come, and their numbers
         self.back = {}  # of parts that are down or asleep: when they are started, or let go
         self.changes = Changes(self)
@@ -66,8 +73,7 @@ class Run:
             self.changes.give_up_all()
             self.watch.settle()
             self.watch.at_rest()
-            if not self.break_name:
-                self.cluster.history.compare_end(self.compare(), self.cluster.lines())
+            self.compare_until_here()
         except Found as found:
             raise found if self.break_name else Found(f"{found}; {self.verdict()}") from None
         finally:
@@ -87,6 +93,15 @@ class Run:
         for kind, name in (("lose", "losses"), ("join", "joins"), ("restart_orchestrator", "lists"), ("restart_controller", "configurations")):
             setattr(self.counts, name, sum(kind in it for it in history.events))
         self.counts.audits, self.counts.repeats, self.counts.settled = watch.audits, watch.repeats, watch.settled
+        it = self.recovering
+        self.counts.recoveries, self.counts.cut_off, self.counts.undone, self.counts.copies = it.count, it.cuts, it.undone, it.copies
+
+    def compare_until_here(self):
+        """Has `csi-replay run` say what happened, to the end; or up to the first recovery, of which a schedule has no event."""
+        history = self.cluster.history
+        if history.until is None and not self.break_name:
+            history.until = len(history.events), len(history.frames)
+            history.compare_end(self.compare(), self.cluster.lines())
 
     def compare(self):
         return self.cluster.history.compare(self.cluster.program, f"{self.folder}/schedule.json")
@@ -95,7 +110,7 @@ class Run:
         """Of a run in which something was found: whether the machines do the same."""
         try:
             self.compare()
-            return "a run of the schedule says the same up to there"
+            return "a run of the schedule says the same up to " + ("the first recovery" if self.recovering.count else "there")
         except Found as found:
             return str(found)
 
@@ -111,6 +126,10 @@ class Run:
             self.cluster.pending.append(self.late.pop(0)[1])
         if self.at in self.kills:
             self.kill()
+        if self.at in self.copies:
+            self.recovering.keep_copy()
+        if self.at in self.recoveries:
+            self.recovering.recover()
         if self.at % self.audit_every == self.audit_every - 1:
             self.rest()
             self.watch.at_rest()

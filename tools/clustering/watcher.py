@@ -16,5 +16,8 @@ class Watcher:
     def joined(self, name, session):
         """A node joined, with a new store, and was told this session."""
 
+    def raised(self, name, session):
+        """A session was raised in a plugin's store, while it was at rest."""
+
     def lost(self, name):
         """A node is no more."""

@@ -50,6 +50,10 @@ class Watch(Watcher):
         """A node joined, with a new store, and was told a session."""
         self.sessions[name], self.fences[name] = session, Fence(session)
 
+    def raised(self, name, session):
+        """A recovery raised a plugin's session: all that was ever sent to it is stale from then on."""
+        self.fences[name].begin(session)
+
     def lost(self, name):
         """A node is no more, and one of its id that joins is another one."""
         del self.fences[name]

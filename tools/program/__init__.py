@@ -3,6 +3,7 @@ from . import (
     changes,
     configs,
     devices,
+    drawn_recoveries,
     faults,
     full,
     groups,
@@ -16,6 +17,9 @@ from . import (
     pictures,
     plugins,
     records,
+    recoveries,
+    recovery_stops,
+    refused_recoveries,
     rows,
     schedules,
     script,
@@ -27,8 +31,8 @@ from . import (
 
 # Those that draw nothing, the longest first.
 SUBJECTS = (
-    *(devices, faults, streams, full, opening, largest, groups, worlds, records, rows, plugins, orchestrators, changes, configs, schedules),
-    *(words, help, shown, pages, script),
+    *(recovery_stops, refused_recoveries, devices, faults, streams, full, opening, largest, groups, worlds, records, rows, plugins, orchestrators, changes, configs),
+    *(recoveries, schedules, words, help, shown, pages, script),
 )
 
 
@@ -37,5 +41,6 @@ def all_cases(seed):
     yield from kills.cases(seed)
     yield from joined.cases(seed)
     yield from pictures.cases(seed)
+    yield from drawn_recoveries.cases(seed)
     for subject in SUBJECTS:
         yield from subject.cases()

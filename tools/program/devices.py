@@ -202,12 +202,16 @@ def by_disk(box, plugin):
 
 
 def traced(box, plugin, word, path, given, inject=None):
-    """A run under strace, and the calls of the system that write, cut or sync."""
-    strace = need("strace")
-    before = [strace, "-o", box.at("trace"), "-e", f"trace={TRACED}"]
+    """A plugin's or an orchestrator's run under strace, and the calls of the system that write, cut or sync."""
+    return traced_by(box, (plugin, path, word), inject, given=given)
+
+
+def traced_by(box, words, inject=None, **how):
+    """The same of a run with any words."""
+    before = [need("strace"), "-o", box.at("trace"), "-e", f"trace={TRACED}"]
     if inject:
         before += ["-e", f"inject={inject}"]
-    ran = box.run(plugin, path, word, given=given, before=before)
+    ran = box.run(*words, before=before, **how)
     calls = re.findall(rb"^(\w+)\(", box.get("trace"), re.MULTILINE)
     return ran, [call.decode() for call in calls]
 
