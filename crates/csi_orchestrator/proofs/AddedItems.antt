@@ -1,41 +1,30 @@
 -- What each input adds to a history: few items that leave it well-formed, each reply among them came, and the answer has the
 -- frame of the call that is sent, if one is.
-use Rattle.std.proofs.Common.{◌≡◌, ◌+◌, ◌^◌, ◌≤◌, ℕ, List, [], ◌∷◌, ◌++◌, append_assoc, length, map, Bool, true, false, cond, refl, sym, ◌∙◌, ap, subst, arith}
-use Rattle.std.specs.List.{AllByRecursion, cons_option}
-use Rattle.std.specs.Prelude.{suc, Option, Some, None, filter, filter_map, nat_lt, is_none, ◌==◌, ◌&&◌, Result, Ok, Err, option_and_then}
-use Rattle.std.proofs.lemmas.Bool.{eq-eqb, lt-ltb, le-ltb, and_parts, false≢true}
-use Rattle.std.proofs.lemmas.List.{length-append}
-use Rattle.csi_types.specs.declared.call.Call.{Call}
+use Rattle.csi_orchestrator.proofs.Words.{◌≡◌, ◌+◌, ◌^◌, ◌≤◌, ℕ, List, [], ◌∷◌, ◌++◌, append_assoc, length, map, Bool}
+use Rattle.csi_orchestrator.proofs.Words.{true, false, cond, refl, sym, ◌∙◌, ap, subst, arith, AllByRecursion}
+use Rattle.csi_orchestrator.proofs.Words.{cons_option, suc, Option, Some, None, filter, filter_map, nat_lt, is_none}
+use Rattle.csi_orchestrator.proofs.Words.{◌==◌, ◌&&◌, Result, Ok, Err, option_and_then, Call, Kind, Body, Number, Reply}
+use Rattle.csi_orchestrator.proofs.Words.{kind_of, Frame, IsBefore, is_ok_status, same_text, same_number, same_party}
+use Rattle.csi_orchestrator.proofs.Words.{same_kind, OrchFault, No, Thing, Exists, Issued, is_no, Item, Started, Lost}
+use Rattle.csi_orchestrator.proofs.Words.{Forgotten, Accepted, Noted, History, with_items, newest}
+use Rattle.csi_orchestrator.proofs.Words.{noted_for, known, id_of, goal_of, open_call, names_of, tries, last_number}
+use Rattle.csi_orchestrator.proofs.Words.{nodes_of, issued_in, IsOfName, IsNextNumber, IsUnused, AreWellFormed}
+use Rattle.csi_orchestrator.proofs.Words.{IsWellFormed, next_number, create_fault, use_fault, use_room_fault}
+use Rattle.csi_orchestrator.proofs.Words.{stop_fault, delete_fault, delete_busy_fault, timeout_fault, restart_fault}
+use Rattle.csi_orchestrator.proofs.Words.{loss_fault, Due, call_for, due_kind, due_for, due_call, Input, ToCreate}
+use Rattle.csi_orchestrator.proofs.Words.{ToUse, ToStop, ToDelete, TimesOut, Comes, Restarts, Loses, Answer, Restarted}
+use Rattle.csi_orchestrator.proofs.Words.{GivenUp, Sends, Moved, met_already, sent_as, send_due, command, use_when}
+use Rattle.csi_orchestrator.proofs.Words.{delete_when, undoing_goal, closing, is_forward_due, timeout, is_number_open}
+use Rattle.csi_orchestrator.proofs.Words.{call_replied, hears, heard, heard_refusal, deliver, is_forgotten, forgetting}
+use Rattle.csi_orchestrator.proofs.Words.{stopping, stopping_all, restart, without_node, lose, moves, moved_to}
+use Rattle.csi_orchestrator.proofs.Words.{IsReplyTo, most_items, frame_of, frame_if_sent, frames_in}
+use Rattle.csi_orchestrator.proofs.Lemmas.{eq-eqb, lt-ltb, le-ltb, and_parts, false≢true, length-append}
+use Rattle.csi_orchestrator.proofs.Lemmas.{same_text-tells, each-passes, among-find, find-passes}
 use Rattle.csi_types.specs.declared.call.Call.TheVariants as calls
-use Rattle.csi_types.specs.declared.call.Kind.{Kind}
 use Rattle.csi_types.specs.declared.call.Kind.TheVariants as kinds
-use Rattle.csi_types.specs.declared.frame.Body.{Body}
 use Rattle.csi_types.specs.declared.frame.Body.TheVariants as bodies
-use Rattle.csi_types.specs.declared.number.Number.{Number}
-use Rattle.csi_types.specs.declared.reply.Reply.{Reply}
-use Rattle.csi_types.specs.Model.Call.{kind_of}
-use Rattle.csi_types.specs.Model.Frame.{Frame}
-use Rattle.csi_types.specs.Model.Number.{IsBefore}
-use Rattle.csi_types.specs.Model.Reply.{is_ok_status}
 use Rattle.csi_types.specs.Model.Replies.{reply_frame}
-use Rattle.csi_types.specs.Model.Same.{same_text, same_number, same_party, same_kind}
-use Rattle.csi_types.proofs.Equality.{same_text-tells}
-use Rattle.csi_lists.proofs.Filters.{each-passes}
-use Rattle.csi_lists.proofs.Members.{among-find}
-use Rattle.csi_lists.proofs.Searches.{find-passes}
-use Rattle.csi_orchestrator.specs.declared.fault.OrchFault.{OrchFault}
-use Rattle.csi_orchestrator.specs.declared.thing.Known.TheVariants.{No}
-use Rattle.csi_orchestrator.specs.declared.thing.Thing.{Thing}
-use Rattle.csi_orchestrator.specs.declared.thing.Thing.TheVariants.{Exists}
-use Rattle.csi_orchestrator.specs.Model.Thing.{Issued, is_no}
-use Rattle.csi_orchestrator.specs.Model.History.{Usage, Goal, Create, Use, Stop, Delete, Item, Started, Lost, Forgotten, Sent, Accepted, Closed, Noted, History, with_items}
-use Rattle.csi_orchestrator.specs.Model.Readings.{newest, noted_for, known, id_of, goal_of, open_call, names_of, tries, last_number, nodes_of, issued_in}
-use Rattle.csi_orchestrator.specs.Model.WellFormed.{IsOfName, IsNextNumber, IsUnused, AreWellFormed, IsWellFormed}
-use Rattle.csi_orchestrator.specs.Model.Commands.{next_number, create_fault, use_fault, use_room_fault, stop_fault, delete_fault, delete_busy_fault, timeout_fault, restart_fault, loss_fault}
-use Rattle.csi_orchestrator.specs.Model.Due.{Due, call_for, due_kind, due_for, due_call}
-use Rattle.csi_orchestrator.specs.Model.Moves.{Input, ToCreate, ToUse, ToStop, ToDelete, TimesOut, Comes, Restarts, Loses, Answer, Restarted, GivenUp, Sends, Moved, met_already, sent_as, send_due, command, use_when, delete_when, undoing_goal, closing, is_forward_due, timeout, is_number_open, call_replied, hears, heard, heard_refusal, deliver, is_forgotten, forgetting, stopping, stopping_all, restart, without_node, lose, moves}
-use Rattle.csi_orchestrator.specs.Public.Moves.{moved_to}
-use Rattle.csi_orchestrator.specs.Public.Steps.{IsReplyTo, most_items, frame_of, frame_if_sent, frames_in}
+use Rattle.csi_orchestrator.specs.Model.History.{Usage, Goal, Create, Use, Stop, Delete}
 use Rattle.csi_orchestrator.proofs.BegunItems.{AreAside, forgetting-aside, stopping-aside, loss-aside, issued-aside, form-aside, few-forgotten, few-begun}
 use Rattle.csi_orchestrator.proofs.KnownTests.{no_is_no}
 use Rattle.csi_orchestrator.proofs.RepliedRows.{own-open}
@@ -92,12 +81,7 @@ is_next last = either (IsNextIfSome last) (nat_lt (last.call + 1) (2 ^ 64)) (Som
 abbrev pub TakesReplies : History → Input → List Item → Type 0
 TakesReplies history input [] = Unit {0}
 TakesReplies history input (Accepted number status id ∷ older) = IsReplyTo (with_items history older) input number status id × TakesReplies history input older
-TakesReplies history input (Started session nodes ∷ older) = TakesReplies history input older
-TakesReplies history input (Lost node ∷ older) = TakesReplies history input older
-TakesReplies history input (Forgotten name ∷ older) = TakesReplies history input older
-TakesReplies history input (Sent issued ∷ older) = TakesReplies history input older
-TakesReplies history input (Closed number ∷ older) = TakesReplies history input older
-TakesReplies history input (Noted name goal ∷ older) = TakesReplies history input older
+TakesReplies history input (item ∷ older) = TakesReplies history input older
 
 -- the name's volume isn't there, and nothing is wanted of it
 pub record IsGone (history : History) (name : List ℕ) : Type 0 where
@@ -293,15 +277,12 @@ passing-aside history input goals node first passing (name ∷ names) = by (goal
   where
     by : (goal : Option Goal) → ArePassing history input (filter_map (λ n. stopping node n (goals n)) names ++ first)
         → ArePassing history input (cons_option (stopping node name goal) (filter_map (λ n. stopping node n (goals n)) names) ++ first)
-    by None rest = rest
-    by (Some (Create arguments)) rest = rest
     by (Some (Use usage)) rest = at (same_text usage.node node)
       where
         at : (b : Bool) → ArePassing history input (cons_option (cond b (Some (Noted name (Some (Stop usage.node usage.target)))) None) (filter_map (λ n. stopping node n (goals n)) names) ++ first)
         at true = rest
         at false = rest
-    by (Some (Stop there target)) rest = rest
-    by (Some Delete) rest = rest
+    by goal rest = rest
 
 -- of a name of which nothing is wanted they note nothing
 stops-silent : (node name : List ℕ) (goals : List ℕ → Option Goal) → goals name ≡ None → (names : List (List ℕ)) (rest : List Item)
@@ -309,25 +290,19 @@ stops-silent : (node name : List ℕ) (goals : List ℕ → Option Goal) → goa
 stops-silent node name goals idle [] rest = refl
 stops-silent node name goals idle (other ∷ others) rest = by (same_text other name) refl (goals other) refl (stops-silent node name goals idle others rest)
   where
-    more : List Item
-    more = filter_map (λ n. stopping node n (goals n)) others ++ rest
-
     by : (b : Bool) → same_text other name ≡ b → (goal : Option Goal) → goals other ≡ goal
         → filter_map (noted_for name) (filter_map (λ n. stopping node n (goals n)) others ++ rest) ≡ filter_map (noted_for name) rest
         → filter_map (noted_for name) (cons_option (stopping node other goal) (filter_map (λ n. stopping node n (goals n)) others) ++ rest) ≡ filter_map (noted_for name) rest
-    by b e None f then = then
     by true e (Some goal) f then = absurd (clash goal (sym (ap goals ((same_text-tells other name).0 e) ∙ idle) ∙ f))
       where
         clash : (goal : Goal) → None ≡ Some goal → ⊥
         clash goal h = cc
-    by false e (Some (Create arguments)) f then = then
     by false e (Some (Use usage)) f then = at (same_text usage.node node)
       where
         at : (t : Bool) → filter_map (noted_for name) (cons_option (cond t (Some (Noted other (Some (Stop usage.node usage.target)))) None) (filter_map (λ n. stopping node n (goals n)) others) ++ rest) ≡ filter_map (noted_for name) rest
         at true = ap (λ b. cons_option (cond b (Some (Some (Stop usage.node usage.target))) None) (filter_map (noted_for name) (filter_map (λ n. stopping node n (goals n)) others ++ rest))) e ∙ then
         at false = then
-    by false e (Some (Stop there target)) f then = then
-    by false e (Some Delete) f then = then
+    by b e goal f then = then
 
 -- what is known stays where names are forgotten and something is noted, and where a session starts
 known-aside : (history : History) (thing : Thing) (later : List Item) → AreAside later → known (with_items history later) thing ≡ known history thing

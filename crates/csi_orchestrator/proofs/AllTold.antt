@@ -1,61 +1,24 @@
--- Rows that keep the rules of a record's are told by a history, one behind another.
-use Rattle.std.proofs.Common.{◌≡◌, ◌<◌, ◌+◌, ℕ, List, [], ◌∷◌, ◌++◌, false, refl, sym, ◌∙◌, ap, subst, arith}
-use Rattle.std.specs.Prelude.{Option, Some, None, option_and_then}
-use Rattle.std.specs.List.{AllByRecursion}
-use Rattle.std.proofs.lemmas.List.{append-nil, append_assoc}
-use Rattle.csi_lists.specs.Model.Members.{EachTwo}
-use Rattle.csi_lists.proofs.Members.{each_of, among-find}
-use Rattle.csi_types.specs.declared.number.Number.{Number}
-use Rattle.csi_types.specs.Model.Same.{same_text}
-use Rattle.csi_orchestrator.specs.Model.History.{History, Started, history_after, with_items}
-use Rattle.csi_orchestrator.specs.Model.Readings.{last_number}
-use Rattle.csi_orchestrator.specs.Model.WellFormed.{IsWellFormed}
-use Rattle.csi_orchestrator.specs.Model.Agrees.{Agrees}
-use Rattle.csi_orchestrator.specs.Model.Shown.{RowShown, OrchestratorParts, row_of, mark_in, mark_of, open_in_row, orchestrator_view, Shows}
-use Rattle.csi_orchestrator.specs.Public.Restored.{IsRestorable}
-use Rattle.csi_orchestrator.specs.Private.Following.{ViewFollows, after_started}
+-- Rows that keep the rules of a record's are told by a history, one behind another; and what is kept of it grows with it.
+use Rattle.csi_orchestrator.proofs.Words.{◌≡◌, ◌<◌, ◌+◌, ℕ, List, [], ◌∷◌, ◌++◌, false, refl, sym, ◌∙◌, ap, subst}
+use Rattle.csi_orchestrator.proofs.Words.{arith, Option, Some, None, option_and_then, AllByRecursion, EachTwo, Call}
+use Rattle.csi_orchestrator.proofs.Words.{Party, Controller, Number, same_text, History, Started, history_after}
+use Rattle.csi_orchestrator.proofs.Words.{with_items, last_number, IsWellFormed, Agrees, RowShown, NodeEntryShown}
+use Rattle.csi_orchestrator.proofs.Words.{OrchestratorParts, row_of, mark_in, mark_of, open_in_row, orchestrator_view}
+use Rattle.csi_orchestrator.proofs.Words.{Shows, IsRestorable, after_started}
+use Rattle.csi_orchestrator.proofs.Lemmas.{false≢true, append-nil, append_assoc, all_of, each_of, among-find}
+use Rattle.csi_types.specs.declared.call.Call.TheVariants as calls
 use Rattle.csi_orchestrator.proofs.RowViews.{put-agrees}
 use Rattle.csi_orchestrator.proofs.SplitLists.{find-of_none, put-last, two-there}
-use Rattle.csi_orchestrator.proofs.RowsTold.{IsTold}
-use Rattle.csi_orchestrator.proofs.EntriesTold.{IsUnknown, told-row}
+use Rattle.csi_orchestrator.proofs.RowsTold.{Keeps, IsTold}
+use Rattle.csi_orchestrator.proofs.EntriesTold.{TargetFits, EntryFits, RowFits, IsUnknown, told-row}
+use Rattle.csi_orchestrator.proofs.ViewFollowed.{view-follows}
 
 -- the parts with these rows, after a call of the session
 abbrev pub parts_after : List (List ℕ) → Number → List RowShown → OrchestratorParts
 parts_after nodes last rows = record { nodes = nodes; last = last; rows = rows }
 
--- a history in the session tells these rows
-pub record AreTold (nodes : List (List ℕ)) (session : ℕ) (rows : List RowShown) : Type 0 where
-  pub last : Number
-  pub history : History
-  pub form : IsWellFormed history
-  pub agrees : Shows (parts_after nodes last rows) history
-  pub in_session : last.session ≡ session
-
--- no rows
-none-told : (nodes : List (List ℕ)) (session : ℕ) → AreTold nodes session []
-none-told nodes session =
-    record {
-      last = record { session = session; call = 0 };
-      history = history_after nodes (record { session = session; call = 0 });
-      form = tt;
-      agrees =
-          record {
-            same_nodes = refl;
-            same_last = refl;
-            same_rows = λ name. refl;
-            same_marks = λ thing. refl;
-            same_ids = λ name. refl;
-            same_goals = λ name. refl;
-            same_arguments = λ name. refl;
-            same_holdings = λ name node there. refl;
-            same_open_calls = λ name. refl;
-            same_counts = λ name. refl;
-          };
-      in_session = refl;
-    }
-
 -- of a name without a row nothing is shown
-pub no-row : (parts : OrchestratorParts) (name : List ℕ) → row_of parts.rows name ≡ None → IsUnknown (orchestrator_view parts) name
+no-row : (parts : OrchestratorParts) (name : List ℕ) → row_of parts.rows name ≡ None → IsUnknown (orchestrator_view parts) name
 no-row parts name none =
     record {
       marks = λ thing is. ap (λ n. mark_in (mark_of thing) (row_of parts.rows n)) is ∙ ap (mark_in (mark_of thing)) none;
@@ -63,45 +26,80 @@ no-row parts name none =
       open_calls = ap (option_and_then open_in_row) none;
     }
 
--- one row more
-one-told : ViewFollows → (nodes : List (List ℕ)) (session : ℕ) (rows : List RowShown) (row : RowShown) → row_of rows row.name ≡ None → IsRestorable nodes row → AreTold nodes session rows → AreTold nodes session (rows ++ row ∷ [])
-one-told follows nodes session rows row fresh kept old =
-    record {
-      last = (told.view).last;
-      history = told.history;
-      form = told.form;
-      agrees =
-          subst (λ (rs : List RowShown). Shows (parts_after nodes (told.view).last rs) told.history) (put-last (λ (r : RowShown). r.name) row rows fresh)
-          (put-agrees parts (told.view).last row.name row told.view told.history told.reads told.others (sym told.same_nodes) refl told.agrees);
-      in_session = told.same_session ∙ old.in_session;
-    }
-  where
-    parts : OrchestratorParts
-    parts = parts_after nodes old.last rows
+-- a history of which this is kept, in the session of this number, tells these rows
+pub record AreTold (P : History → Type 0) (nodes : List (List ℕ)) (start : Number) (rows : List RowShown) : Type 0 where
+  pub last : Number
+  pub history : History
+  pub form : IsWellFormed history
+  pub agrees : Shows (parts_after nodes last rows) history
+  pub in_session : last.session ≡ start.session
+  pub kept : P history
 
-    told : IsTold (orchestrator_view parts) row
-    told = told-row follows (orchestrator_view parts) old.history row old.form old.agrees (no-row parts row.name fresh) kept.quiet kept.steady.tries kept.steady.standing kept.sound.nodes kept.sound.targets
+module _ (P : History → Type 0) (Fits : Option ℕ → List ℕ → Party → Call → Option ℕ → Type 0) (keeps : Keeps P Fits) (nodes : List (List ℕ)) (start : Number) where
+  -- one row more
+  one-told : (rows : List RowShown) (row : RowShown) → row_of rows row.name ≡ None → IsRestorable nodes row → RowFits Fits row → AreTold P nodes start rows → AreTold P nodes start (rows ++ row ∷ [])
+  one-told rows row fresh rules fits old =
+      record {
+        last = (told.view).last;
+        history = told.history;
+        form = told.form;
+        agrees =
+            subst (λ (rs : List RowShown). Shows (parts_after nodes (told.view).last rs) told.history) (put-last (λ (r : RowShown). r.name) row rows fresh)
+            (put-agrees parts (told.view).last row.name row told.view told.history told.reads told.others (sym told.same_nodes) refl told.agrees);
+        in_session = told.same_session ∙ old.in_session;
+        kept = told.kept;
+      }
+    where
+      parts : OrchestratorParts
+      parts = parts_after nodes old.last rows
 
--- row after row
-more-told : ViewFollows → (nodes : List (List ℕ)) (session : ℕ) (done todo : List RowShown) → EachTwo (λ (a b : RowShown). same_text a.name b.name ≡ false) (done ++ todo) → AllByRecursion (IsRestorable nodes) todo
-    → AreTold nodes session done → AreTold nodes session (done ++ todo)
-more-told follows nodes session done [] apart each told = subst (AreTold nodes session) (sym (append-nil done)) told
-more-told follows nodes session done (row ∷ todo) apart each told =
-    subst (AreTold nodes session) same
-    (more-told follows nodes session (done ++ row ∷ []) todo (subst (EachTwo (λ (a b : RowShown). same_text a.name b.name ≡ false)) (sym same) apart) each.1 (one-told follows nodes session done row fresh each.0 told))
-  where
-    same : (done ++ row ∷ []) ++ todo ≡ done ++ row ∷ todo
-    same = append_assoc done (row ∷ []) todo
+      told : IsTold P (orchestrator_view parts) row
+      told = told-row P Fits keeps (orchestrator_view parts) old.history nodes row rules fits old.form old.agrees (no-row parts row.name fresh) old.kept
 
-    fresh : row_of done row.name ≡ None
-    fresh = find-of_none (λ (r : RowShown). same_text r.name row.name) done (two-there (λ (a b : RowShown). same_text a.name b.name ≡ false) done row todo apart).0
+  -- row after row
+  more-told : (done todo : List RowShown) → EachTwo (λ (a b : RowShown). same_text a.name b.name ≡ false) (done ++ todo) → AllByRecursion (IsRestorable nodes) todo → AllByRecursion (RowFits Fits) todo → AreTold P nodes start done → AreTold P nodes start (done ++ todo)
+  more-told done [] apart each fits told = subst (AreTold P nodes start) (sym (append-nil done)) told
+  more-told done (row ∷ todo) apart each fits told =
+      subst (AreTold P nodes start) same (more-told (done ++ row ∷ []) todo (subst (EachTwo (λ (a b : RowShown). same_text a.name b.name ≡ false)) (sym same) apart) each.1 fits.1 (one-told done row fresh each.0 fits.0 told))
+    where
+      same : (done ++ row ∷ []) ++ todo ≡ done ++ row ∷ todo
+      same = append_assoc done (row ∷ []) todo
 
--- all of them
-pub all-told : ViewFollows → (nodes : List (List ℕ)) (session : ℕ) (rows : List RowShown) → EachTwo (λ (a b : RowShown). same_text a.name b.name ≡ false) rows → AllByRecursion (IsRestorable nodes) rows → AreTold nodes session rows
-all-told follows nodes session rows apart each = more-told follows nodes session [] rows apart each (none-told nodes session)
+      fresh : row_of done row.name ≡ None
+      fresh = find-of_none (λ (r : RowShown). same_text r.name row.name) done (two-there (λ (a b : RowShown). same_text a.name b.name ≡ false) done row todo apart).0
+
+  -- all of them, numbered after this number
+  pub all-told : (rows : List RowShown) → P (history_after nodes start) → EachTwo (λ (a b : RowShown). same_text a.name b.name ≡ false) rows → AllByRecursion (IsRestorable nodes) rows
+      → AllByRecursion (RowFits Fits) rows → AreTold P nodes start rows
+  all-told rows kept apart each fits = more-told [] rows apart each fits first
+    where
+      first : AreTold P nodes start []
+      first =
+          record {
+            last = start;
+            history = history_after nodes start;
+            form = tt;
+            agrees =
+                record {
+                  same_nodes = refl;
+                  same_last = refl;
+                  same_rows = λ name. refl;
+                  same_marks = λ thing. refl;
+                  same_ids = λ name. refl;
+                  same_goals = λ name. refl;
+                  same_arguments = λ name. refl;
+                  same_holdings = λ name node there. refl;
+                  same_open_calls = λ name. refl;
+                  same_counts = λ name. refl;
+                };
+            in_session = refl;
+            kept = kept;
+          }
+
+-- ---- a session starts
 
 -- no row has an open call
-pub none-open : (nodes : List (List ℕ)) (rows : List RowShown) (name : List ℕ) → AllByRecursion (IsRestorable nodes) rows → option_and_then open_in_row (row_of rows name) ≡ None
+none-open : (nodes : List (List ℕ)) (rows : List RowShown) (name : List ℕ) → AllByRecursion (IsRestorable nodes) rows → option_and_then open_in_row (row_of rows name) ≡ None
 none-open nodes rows name each = by (row_of rows name) refl
   where
     by : (o : Option RowShown) → row_of rows name ≡ o → option_and_then open_in_row o ≡ None
@@ -110,6 +108,32 @@ none-open nodes rows name each = by (row_of rows name) refl
         let quiet = (each_of (IsRestorable nodes) rows row each (among-find (λ (r : RowShown). same_text r.name name) rows row e)).quiet in
         ap (λ o. open_in_row (record row { open_call = o })) quiet
 
+-- a later session tells the same rows, none of which has an open call
+pub started-told : (nodes : List (List ℕ)) (session : ℕ) (last : Number) (rows : List RowShown) (history : History) → AllByRecursion (IsRestorable nodes) rows → Shows (parts_after nodes last rows) history → (last_number history).session < session
+    → Shows (record { nodes = nodes; last = record { session = session; call = 0 }; rows = rows }) (with_items history (Started session nodes ∷ []))
+started-told nodes session last rows history each agrees less =
+    record {
+      same_nodes = now.same_nodes;
+      same_last = now.same_last;
+      same_rows = now.same_rows;
+      same_marks = now.same_marks;
+      same_ids = now.same_ids;
+      same_goals = now.same_goals;
+      same_arguments = now.same_arguments;
+      same_holdings = now.same_holdings;
+      same_open_calls = λ name. none-open nodes rows name each ∙ now.same_open_calls name;
+      same_counts = now.same_counts;
+    }
+  where
+    now : Agrees (after_started session nodes (orchestrator_view (parts_after nodes last rows))) (with_items history (Started session nodes ∷ []))
+    now = view-follows.started (orchestrator_view (parts_after nodes last rows)) history session nodes agrees less
+
+-- ---- whatever rows keep the rules
+
+-- where nothing is asked of calls, all fit
+AnyFits : Option ℕ → List ℕ → Party → Call → Option ℕ → Type 0
+AnyFits id name party call brought = Unit {0}
+
 -- in the next session, before its first call, there is such a history too
 pub record HasTold (parts : OrchestratorParts) : Type 0 where
   pub history : History
@@ -117,35 +141,38 @@ pub record HasTold (parts : OrchestratorParts) : Type 0 where
   pub agrees : Shows parts history
 
 -- whatever rows keep the rules
-pub next-told : ViewFollows → (nodes : List (List ℕ)) (session : ℕ) (rows : List RowShown) → EachTwo (λ (a b : RowShown). same_text a.name b.name ≡ false) rows → AllByRecursion (IsRestorable nodes) rows
+pub next-told : (nodes : List (List ℕ)) (session : ℕ) (rows : List RowShown) → EachTwo (λ (a b : RowShown). same_text a.name b.name ≡ false) rows → AllByRecursion (IsRestorable nodes) rows
     → HasTold (record { nodes = nodes; last = record { session = session + 1; call = 0 }; rows = rows })
-next-told follows nodes session rows apart each =
-    record {
-      history = with_items told.history (Started (session + 1) nodes ∷ []);
-      form = (less, told.form);
-      agrees =
-          record {
-            same_nodes = now.same_nodes;
-            same_last = now.same_last;
-            same_rows = now.same_rows;
-            same_marks = now.same_marks;
-            same_ids = now.same_ids;
-            same_goals = now.same_goals;
-            same_arguments = now.same_arguments;
-            same_holdings = now.same_holdings;
-            same_open_calls = λ name. none-open nodes rows name each ∙ now.same_open_calls name;
-            same_counts = now.same_counts;
-          };
-    }
+unfolding AnyFits
+next-told nodes session rows apart each =
+    record { history = with_items told.history (Started (session + 1) nodes ∷ []); form = (less, told.form); agrees = started-told nodes (session + 1) told.last rows told.history each told.agrees less }
   where
-    told : AreTold nodes session rows
-    told = all-told follows nodes session rows apart each
+    keeps : Keeps (λ history. Unit {0}) AnyFits
+    keeps = record { noted = λ history name goal kept. tt; closed = λ history number kept. tt; sent = λ history issued id brought fits is next kept. tt; accepted = λ history issued id brought fits among kept. tt }
 
-    parts : OrchestratorParts
-    parts = parts_after nodes told.last rows
+    entry-fits : (row : RowShown) (entry : NodeEntryShown) → EntryFits AnyFits row.name row.id entry
+    entry-fits row entry = record { attaches = λ some. (0, tt); stages = λ some. (0, (entry.capability, tt)); targets = all_of (TargetFits AnyFits row.name row.id entry) entry.target_entries (λ t there some. (0, (entry.capability, (entry.readonly, tt)))) }
+
+    row-fits : (row : RowShown) → RowFits AnyFits row
+    row-fits row =
+        record {
+          creates = tt;
+          deletes = λ gone. (0, tt);
+          entries = all_of (EntryFits AnyFits row.name row.id) row.node_entries (λ entry there. entry-fits row entry);
+          tried = λ n e.
+              record {
+                party = Controller;
+                call = calls.NodeUnpublishVolume 0 [];
+                named = tt;
+                detaches = λ node touched undoing. false≢true touched;
+                holds = λ node. refl;
+                marks = λ thing touched. absurd (false≢true touched);
+                fits = tt;
+              };
+        }
+
+    told : AreTold (λ history. Unit {0}) nodes (record { session = session; call = 0 }) rows
+    told = all-told (λ history. Unit {0}) AnyFits keeps nodes (record { session = session; call = 0 }) rows tt apart each (all_of (RowFits AnyFits) rows (λ row there. row-fits row))
 
     less : (last_number told.history).session < session + 1
     less = let is = sym (ap (λ (l : Number). l.session) (told.agrees).same_last) ∙ told.in_session in omega (arith, is)
-
-    now : Agrees (after_started (session + 1) nodes (orchestrator_view parts)) (with_items told.history (Started (session + 1) nodes ∷ []))
-    now = follows.started (orchestrator_view parts) told.history (session + 1) nodes told.agrees less

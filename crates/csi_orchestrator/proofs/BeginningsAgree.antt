@@ -1,29 +1,18 @@
 -- Why what is shown once a session began agrees with the history then.
-use Rattle.std.proofs.Common.{◌≡◌, ◌+◌, ℕ, List, [], ◌∷◌, ◌++◌, append_assoc, Bool, true, false, cond, not, refl, sym, ◌∙◌, ap, subst}
-use Rattle.std.specs.Prelude.{Option, Some, None, filter, is_some, is_none, option_map, option_and_then, ◌&&◌}
-use Rattle.std.specs.List.{list_any}
-use Rattle.csi_lists.specs.Model.Members.{IsAmong}
-use Rattle.csi_lists.proofs.Tests.{alike, any-then, then-any}
-use Rattle.csi_types.specs.declared.number.Number.{Number}
-use Rattle.csi_types.specs.Model.Same.{same_text}
-use Rattle.csi_orchestrator.specs.declared.fault.OrchFault.{OrchFault}
+use Rattle.csi_orchestrator.proofs.Words.{◌≡◌, ◌+◌, ℕ, List, [], ◌∷◌, ◌++◌, append_assoc, Bool, true, false, cond, not}
+use Rattle.csi_orchestrator.proofs.Words.{refl, sym, ◌∙◌, ap, subst, Option, Some, None, filter, is_some, is_none}
+use Rattle.csi_orchestrator.proofs.Words.{option_map, option_and_then, ◌&&◌, list_any, IsAmong, Number, same_text}
+use Rattle.csi_orchestrator.proofs.Words.{OrchFault, Attached, Known, No, is_no, Item, Started, Lost, Forgotten, Noted}
+use Rattle.csi_orchestrator.proofs.Words.{History, with_items, is_gone_with, known, goal_of, nodes_of, names_of}
+use Rattle.csi_orchestrator.proofs.Words.{last_number, next_session, is_node_in_use, restart_fault, loss_fault}
+use Rattle.csi_orchestrator.proofs.Words.{Restarted, GivenUp, is_forgotten, forgetting, stopping_all, without_node}
+use Rattle.csi_orchestrator.proofs.Words.{restart, lose, OrchestratorView, Agrees, RowShown, OrchestratorParts, row_of}
+use Rattle.csi_orchestrator.proofs.Words.{mark_in, mark_of, goal_in, held_on_node, tries_in, orchestrator_view, Shows}
+use Rattle.csi_orchestrator.proofs.Words.{is_used_in, restart_refusal, loss_refusal, restarted_parts, row_at_loss}
+use Rattle.csi_orchestrator.proofs.Words.{parts_at_loss, closed, AreSoundRows, AreGuarded, AreSteadyRowsIf}
+use Rattle.csi_orchestrator.proofs.Words.{after_started, after_lost, moved_unless, starts_again, gives_up}
+use Rattle.csi_orchestrator.proofs.Lemmas.{alike, any-then, then-any}
 use Rattle.csi_orchestrator.specs.declared.fault.OrchFault.TheVariants as faults
-use Rattle.csi_orchestrator.specs.declared.thing.Thing.TheVariants.{Attached}
-use Rattle.csi_orchestrator.specs.declared.thing.Known.{Known}
-use Rattle.csi_orchestrator.specs.declared.thing.Known.TheVariants.{No}
-use Rattle.csi_orchestrator.specs.Model.Thing.{is_no}
-use Rattle.csi_orchestrator.specs.Model.History.{Item, Started, Lost, Forgotten, Noted, History, with_items}
-use Rattle.csi_orchestrator.specs.Model.Readings.{is_gone_with, known, goal_of, nodes_of, names_of, last_number}
-use Rattle.csi_orchestrator.specs.Model.Commands.{next_session, is_node_in_use, restart_fault, loss_fault}
-use Rattle.csi_orchestrator.specs.Model.Moves.{Restarted, GivenUp, is_forgotten, forgetting, stopping_all, without_node, restart, lose}
-use Rattle.csi_orchestrator.specs.Model.Agrees.{OrchestratorView, Agrees}
-use Rattle.csi_orchestrator.specs.Model.Shown.{RowShown, OrchestratorParts, row_of, mark_in, mark_of, goal_in, held_on_node, tries_in, orchestrator_view, Shows}
-use Rattle.csi_orchestrator.specs.Public.Beginning.{is_used_in, restart_refusal, loss_refusal, restarted_parts, row_at_loss, parts_at_loss}
-use Rattle.csi_orchestrator.specs.Public.Shown.{closed}
-use Rattle.csi_orchestrator.specs.Public.Sound.{AreSoundRows, AreGuarded}
-use Rattle.csi_orchestrator.specs.Public.Steady.{AreSteadyRowsIf}
-use Rattle.csi_orchestrator.specs.Private.Following.{after_started, after_lost}
-use Rattle.csi_orchestrator.specs.Private.RowMoves.{moved_unless, starts_again, gives_up}
 use Rattle.csi_orchestrator.proofs.BegunItems.{AreAside, forgetting-aside, loss-aside}
 use Rattle.csi_orchestrator.proofs.JoinedLists.{own-entry}
 use Rattle.csi_orchestrator.proofs.LossViews.{after_forgetting, forgetting-follows, stopped, is_stopped, after_stopping, stopping-follows, stopping-shows, AreStopped}

@@ -1,29 +1,16 @@
 -- What the rows show where a session begins is what the history tells: rows that are forgotten, and those that stay.
-use Rattle.std.proofs.Common.{◌≡◌, ◌≢◌, ℕ, List, [], ◌∷◌, map, Bool, true, false, cond, not, refl, sym, ◌∙◌, ap, subst}
-use Rattle.std.specs.Prelude.{Option, Some, None, find, filter, is_some, is_none, option_map, option_and_then, ◌&&◌}
-use Rattle.std.specs.List.{list_any}
-use Rattle.std.proofs.lemmas.Bool.{false≢true, and_parts}
-use Rattle.csi_lists.proofs.Members.{each_of, among-find, among-kept, in_filter}
-use Rattle.csi_lists.proofs.Searches.{find-map, find-none}
-use Rattle.csi_lists.proofs.Tests.{alike, any-then, then-any}
-use Rattle.csi_types.specs.declared.number.Number.{Number}
-use Rattle.csi_types.specs.Model.Same.{same_text}
-use Rattle.csi_types.proofs.Equality.{same_text-tells}
+use Rattle.csi_orchestrator.proofs.Words.{◌≡◌, ◌≢◌, ℕ, List, [], ◌∷◌, map, Bool, true, false, cond, not, refl, sym, ◌∙◌}
+use Rattle.csi_orchestrator.proofs.Words.{ap, subst, Option, Some, None, find, filter, is_some, is_none, option_map}
+use Rattle.csi_orchestrator.proofs.Words.{option_and_then, ◌&&◌, list_any, Number, same_text, Thing, Exists, Attached}
+use Rattle.csi_orchestrator.proofs.Words.{Staged, Published, Known, Yes, No, name_in, is_no, History, is_gone_with}
+use Rattle.csi_orchestrator.proofs.Words.{goal_of, names_of, has_row, is_forgotten, OrchestratorView, Agrees, RowShown}
+use Rattle.csi_orchestrator.proofs.Words.{OrchestratorParts, row_of, mark_in, publication_known, mark_of, goal_shown}
+use Rattle.csi_orchestrator.proofs.Words.{goal_in, held_on_node, open_in_row, tries_in, Shows, is_row_forgotten}
+use Rattle.csi_orchestrator.proofs.Words.{remembered, row_at_loss, closed, AreSoundRows, HasTries, IsSteadyRowIf}
+use Rattle.csi_orchestrator.proofs.Words.{AreSteadyRowsIf}
+use Rattle.csi_orchestrator.proofs.Lemmas.{false≢true, and_parts, each_of, among-find, among-kept, in_filter, find-map}
+use Rattle.csi_orchestrator.proofs.Lemmas.{find-none, alike, any-then, then-any, same_text-tells}
 use Rattle.csi_orchestrator.specs.declared.row.Goal.{Goal as KeptGoal}
-use Rattle.csi_orchestrator.specs.declared.thing.Thing.{Thing}
-use Rattle.csi_orchestrator.specs.declared.thing.Thing.TheVariants.{Exists, Attached, Staged, Published}
-use Rattle.csi_orchestrator.specs.declared.thing.Known.{Known}
-use Rattle.csi_orchestrator.specs.declared.thing.Known.TheVariants.{Yes, No}
-use Rattle.csi_orchestrator.specs.Model.Thing.{name_in, is_no}
-use Rattle.csi_orchestrator.specs.Model.History.{History}
-use Rattle.csi_orchestrator.specs.Model.Readings.{is_gone_with, goal_of, names_of, has_row}
-use Rattle.csi_orchestrator.specs.Model.Moves.{is_forgotten}
-use Rattle.csi_orchestrator.specs.Model.Agrees.{OrchestratorView, Agrees}
-use Rattle.csi_orchestrator.specs.Model.Shown.{RowShown, OrchestratorParts, row_of, mark_in, publication_known, mark_of, goal_shown, goal_in, held_on_node, open_in_row, tries_in, Shows}
-use Rattle.csi_orchestrator.specs.Public.Beginning.{is_row_forgotten, remembered, row_at_loss}
-use Rattle.csi_orchestrator.specs.Public.Shown.{closed}
-use Rattle.csi_orchestrator.specs.Public.Sound.{AreSoundRows}
-use Rattle.csi_orchestrator.specs.Public.Steady.{HasTries, IsSteadyRowIf, AreSteadyRowsIf}
 use Rattle.csi_orchestrator.proofs.EntryRules.{AreApart}
 use Rattle.csi_orchestrator.proofs.LossViews.{after_forgetting, forgetting-shows, IsForgotten, stopped, is_stopped}
 use Rattle.csi_orchestrator.proofs.RowsAfterSending.{mark-same}
@@ -135,22 +122,34 @@ begun-agrees parts was change nodes last view history sound steady shows is_node
     record {
       same_nodes = is_nodes ∙ sym showing.beside.nodes ∙ agrees.same_nodes;
       same_last = is_last ∙ sym showing.beside.last ∙ agrees.same_last;
-      same_rows = λ name. row name (row_of parts.rows name) refl ∙ agrees.same_rows name;
-      same_marks = λ thing. mark thing (row_of parts.rows (name_in thing)) refl ∙ agrees.same_marks thing;
-      same_ids = λ name. an_id name (row_of parts.rows name) refl ∙ agrees.same_ids name;
-      same_goals = λ name. goal name (row_of parts.rows name) refl ∙ agrees.same_goals name;
-      same_arguments = λ name. argument name (row_of parts.rows name) refl ∙ agrees.same_arguments name;
-      same_holdings = λ name node there. holding name node (row_of parts.rows name) refl (λ e. there (sym (mark (Attached name node) (row_of parts.rows name) refl ∙ agrees.same_marks (Attached name node)) ∙ e)) ∙ agrees.same_holdings name node there;
-      same_open_calls = λ name. call name (row_of parts.rows name) refl ∙ agrees.same_open_calls name;
-      same_counts = λ name. count name (row_of parts.rows name) refl ∙ agrees.same_counts name;
+      same_rows = λ name.
+          reads is_some name _ (λ f. sym (showing.rows name ∙ ap (λ b. cond b false (view.rows name)) (test name None f) ∙ (none name f).rows))
+          (λ r f g. sym (showing.rows name ∙ ap (λ b. cond b false (view.rows name)) (gone name r f true g)))
+          (λ r f g. sym (showing.rows name ∙ ap (λ b. cond b false (view.rows name)) (gone name r f false g) ∙ (some name r f).rows)) ∙ agrees.same_rows name;
+      same_marks = λ thing. mark thing ∙ agrees.same_marks thing;
+      same_ids = λ name.
+          reads (option_and_then (λ (r : RowShown). r.id)) name _ (λ f. sym (showing.ids name ∙ ap (λ b. cond b None (view.ids name)) (test name None f) ∙ (none name f).ids))
+          (λ r f g. sym (showing.ids name ∙ ap (λ b. cond b None (view.ids name)) (gone name r f true g)))
+          (λ r f g. (some name r f).ids ∙ sym (showing.ids name ∙ ap (λ b. cond b None (view.ids name)) (gone name r f false g))) ∙ agrees.same_ids name;
+      same_goals = λ name.
+          reads (option_and_then goal_in) name _ (λ f. sym (showing.goals name ∙ (none name f).goals))
+          (λ r f g. sym (showing.goals name ∙ sym (some name r f).goals ∙ (blank r g (own name r f)).goal)) (λ r f g. (some name r f).goals ∙ sym (showing.goals name)) ∙ agrees.same_goals name;
+      same_arguments = λ name.
+          reads (option_map (λ (r : RowShown). r.arguments)) name _ (λ f. sym (showing.arguments name ∙ ap (λ b. cond b None (view.arguments name)) (test name None f) ∙ (none name f).arguments))
+          (λ r f g. sym (showing.arguments name ∙ ap (λ b. cond b None (view.arguments name)) (gone name r f true g)))
+          (λ r f g. (some name r f).arguments ∙ sym (showing.arguments name ∙ ap (λ b. cond b None (view.arguments name)) (gone name r f false g))) ∙ agrees.same_arguments name;
+      same_holdings = λ name node there.
+          reads (option_and_then (λ (r : RowShown). held_on_node r node)) name _ (λ f. sym (showing.beside.holdings name node ∙ (none name f).holdings node))
+          (λ r f g. absurd (there (sym (mark (Attached name node) ∙ agrees.same_marks (Attached name node)) ∙ ap (mark_in (mark_of (Attached name node))) (of name (Some r) f ∙ kept r true g))))
+          (λ r f g. (some name r f).holdings node ∙ sym (showing.beside.holdings name node)) ∙ agrees.same_holdings name node there;
+      same_open_calls = λ name.
+          reads (option_and_then open_in_row) name _ (λ f. sym (showing.beside.open_calls name ∙ (none name f).open_calls))
+          (λ r f g. sym (showing.beside.open_calls name ∙ sym (some name r f).open_calls ∙ (blank r g (own name r f)).calls)) (λ r f g. (some name r f).open_calls ∙ sym (showing.beside.open_calls name)) ∙ agrees.same_open_calls name;
+      same_counts = λ name.
+          reads tries_in name _ (λ f. sym (showing.counts name ∙ (none name f).counts)) (λ r f g. sym (showing.counts name ∙ sym (some name r f).counts ∙ (blank r g (own name r f)).tries))
+          (λ r f g. (some name r f).counts ∙ sym (showing.counts name)) ∙ agrees.same_counts name;
     }
   where
-    names : List (List ℕ)
-    names = filter (is_forgotten was) (names_of was)
-
-    after : OrchestratorView
-    after = after_forgetting (filter (is_forgotten was) (names_of was)) view
-
     showing : IsForgotten (filter (is_forgotten was) (names_of was)) (after_forgetting (filter (is_forgotten was) (names_of was)) view) view
     showing = forgetting-shows (filter (is_forgotten was) (names_of was)) view
 
@@ -175,79 +174,24 @@ begun-agrees parts was change nodes last view history sound steady shows is_node
     kept r false f = ap (λ b. option_map change (cond b None (Some r))) f
 
     -- what is read of a row that isn't forgotten, and of none
-    reads : {Y : Type 0} (read : Option RowShown → Y) (name : List ℕ) (o : Option RowShown) → row_of parts.rows name ≡ o → (told : Y) → (o ≡ None → read None ≡ told)
-        → ((r : RowShown) → o ≡ Some r → is_row_forgotten r ≡ true → read None ≡ told) → ((r : RowShown) → o ≡ Some r → is_row_forgotten r ≡ false → read (Some (change r)) ≡ told)
-        → read (row_of (map change (remembered parts.rows)) name) ≡ told
-    reads read name None e told empty forgotten there = ap read (of name None e) ∙ empty refl
-    reads read name (Some r) e told empty forgotten there = ap read (of name (Some r) e) ∙ by (is_row_forgotten r) refl
+    reads : {Y : Type 0} (read : Option RowShown → Y) (name : List ℕ) (told : Y) → (row_of parts.rows name ≡ None → read None ≡ told)
+        → ((r : RowShown) → row_of parts.rows name ≡ Some r → is_row_forgotten r ≡ true → read None ≡ told)
+        → ((r : RowShown) → row_of parts.rows name ≡ Some r → is_row_forgotten r ≡ false → read (Some (change r)) ≡ told) → read (row_of (map change (remembered parts.rows)) name) ≡ told
+    reads read name told empty forgotten there = by (row_of parts.rows name) refl
       where
-        by : (b : Bool) → is_row_forgotten r ≡ b → read (option_map change (unless_forgotten r)) ≡ told
-        by true f = ap read (kept r true f) ∙ forgotten r refl f
-        by false f = ap read (kept r false f) ∙ there r refl f
+        by : (o : Option RowShown) → row_of parts.rows name ≡ o → read (row_of (map change (remembered parts.rows)) name) ≡ told
+        by None e = ap read (of name None e) ∙ empty e
+        by (Some r) e = ap read (of name (Some r) e) ∙ at (is_row_forgotten r) refl
+          where
+            at : (b : Bool) → is_row_forgotten r ≡ b → read (option_map change (unless_forgotten r)) ≡ told
+            at true f = ap read (kept r true f) ∙ forgotten r e f
+            at false f = ap read (kept r false f) ∙ there r e f
 
-    row : (name : List ℕ) (o : Option RowShown) → row_of parts.rows name ≡ o → is_some (row_of (map change (remembered parts.rows)) name) ≡ (after_forgetting (filter (is_forgotten was) (names_of was)) view).rows name
-    row name o e =
-        reads is_some name o e ((after_forgetting (filter (is_forgotten was) (names_of was)) view).rows name)
-        (λ f. sym (showing.rows name ∙ ap (λ b. cond b false (view.rows name)) (test name o e ∙ ap (λ x. is_some x && is_forgotten was name) f) ∙ (none name (e ∙ f)).rows))
-        (λ r f g. sym (showing.rows name ∙ ap (λ b. cond b false (view.rows name)) (gone name r (e ∙ f) true g)))
-        (λ r f g. sym (showing.rows name ∙ ap (λ b. cond b false (view.rows name)) (gone name r (e ∙ f) false g) ∙ (some name r (e ∙ f)).rows))
-
-    mark : (thing : Thing) (o : Option RowShown) → row_of parts.rows (name_in thing) ≡ o
-        → mark_in (mark_of thing) (row_of (map change (remembered parts.rows)) (name_in thing)) ≡ (after_forgetting (filter (is_forgotten was) (names_of was)) view).marks thing
-    mark thing o e =
-        reads (mark_in (mark_of thing)) (name_in thing) o e ((after_forgetting (filter (is_forgotten was) (names_of was)) view).marks thing)
-        (λ f. sym (showing.beside.marks thing ∙ (none (name_in thing) (e ∙ f)).marks thing refl))
-        (λ r f g. sym (showing.beside.marks thing ∙ sym ((some (name_in thing) r (e ∙ f)).marks thing refl) ∙ (blank r g (own (name_in thing) r (e ∙ f))).marks thing))
-        (λ r f g. (some (name_in thing) r (e ∙ f)).marks thing refl ∙ sym (showing.beside.marks thing))
-
-    an_id : (name : List ℕ) (o : Option RowShown) → row_of parts.rows name ≡ o
-        → option_and_then (λ (r : RowShown). r.id) (row_of (map change (remembered parts.rows)) name) ≡ (after_forgetting (filter (is_forgotten was) (names_of was)) view).ids name
-    an_id name o e =
-        reads (option_and_then (λ (r : RowShown). r.id)) name o e ((after_forgetting (filter (is_forgotten was) (names_of was)) view).ids name)
-        (λ f. sym (showing.ids name ∙ ap (λ b. cond b None (view.ids name)) (test name o e ∙ ap (λ x. is_some x && is_forgotten was name) f) ∙ (none name (e ∙ f)).ids))
-        (λ r f g. sym (showing.ids name ∙ ap (λ b. cond b None (view.ids name)) (gone name r (e ∙ f) true g)))
-        (λ r f g. (some name r (e ∙ f)).ids ∙ sym (showing.ids name ∙ ap (λ b. cond b None (view.ids name)) (gone name r (e ∙ f) false g)))
-
-    argument : (name : List ℕ) (o : Option RowShown) → row_of parts.rows name ≡ o
-        → option_map (λ (r : RowShown). r.arguments) (row_of (map change (remembered parts.rows)) name) ≡ (after_forgetting (filter (is_forgotten was) (names_of was)) view).arguments name
-    argument name o e =
-        reads (option_map (λ (r : RowShown). r.arguments)) name o e ((after_forgetting (filter (is_forgotten was) (names_of was)) view).arguments name)
-        (λ f. sym (showing.arguments name ∙ ap (λ b. cond b None (view.arguments name)) (test name o e ∙ ap (λ x. is_some x && is_forgotten was name) f) ∙ (none name (e ∙ f)).arguments))
-        (λ r f g. sym (showing.arguments name ∙ ap (λ b. cond b None (view.arguments name)) (gone name r (e ∙ f) true g)))
-        (λ r f g. (some name r (e ∙ f)).arguments ∙ sym (showing.arguments name ∙ ap (λ b. cond b None (view.arguments name)) (gone name r (e ∙ f) false g)))
-
-    goal : (name : List ℕ) (o : Option RowShown) → row_of parts.rows name ≡ o
-        → option_and_then goal_in (row_of (map change (remembered parts.rows)) name) ≡ (after_forgetting (filter (is_forgotten was) (names_of was)) view).goals name
-    goal name o e =
-        reads (option_and_then goal_in) name o e ((after_forgetting (filter (is_forgotten was) (names_of was)) view).goals name)
-        (λ f. sym (showing.goals name ∙ (none name (e ∙ f)).goals))
-        (λ r f g. sym (showing.goals name ∙ sym (some name r (e ∙ f)).goals ∙ (blank r g (own name r (e ∙ f))).goal))
-        (λ r f g. (some name r (e ∙ f)).goals ∙ sym (showing.goals name))
-
-    -- a name that is forgotten isn't attached anywhere
-    holding : (name node : List ℕ) (o : Option RowShown) → row_of parts.rows name ≡ o → mark_in (mark_of (Attached name node)) (row_of (map change (remembered parts.rows)) name) ≢ No
-        → option_and_then (λ (r : RowShown). held_on_node r node) (row_of (map change (remembered parts.rows)) name) ≡ (after_forgetting (filter (is_forgotten was) (names_of was)) view).holdings name node
-    holding name node o e there =
-        reads (option_and_then (λ (r : RowShown). held_on_node r node)) name o e ((after_forgetting (filter (is_forgotten was) (names_of was)) view).holdings name node)
-        (λ f. sym (showing.beside.holdings name node ∙ (none name (e ∙ f)).holdings node))
-        (λ r f g. absurd (there (ap (mark_in (mark_of (Attached name node))) (of name (Some r) (e ∙ f) ∙ kept r true g))))
-        (λ r f g. (some name r (e ∙ f)).holdings node ∙ sym (showing.beside.holdings name node))
-
-    call : (name : List ℕ) (o : Option RowShown) → row_of parts.rows name ≡ o
-        → option_and_then open_in_row (row_of (map change (remembered parts.rows)) name) ≡ (after_forgetting (filter (is_forgotten was) (names_of was)) view).open_calls name
-    call name o e =
-        reads (option_and_then open_in_row) name o e ((after_forgetting (filter (is_forgotten was) (names_of was)) view).open_calls name)
-        (λ f. sym (showing.beside.open_calls name ∙ (none name (e ∙ f)).open_calls))
-        (λ r f g. sym (showing.beside.open_calls name ∙ sym (some name r (e ∙ f)).open_calls ∙ (blank r g (own name r (e ∙ f))).calls))
-        (λ r f g. (some name r (e ∙ f)).open_calls ∙ sym (showing.beside.open_calls name))
-
-    count : (name : List ℕ) (o : Option RowShown) → row_of parts.rows name ≡ o
-        → tries_in (row_of (map change (remembered parts.rows)) name) ≡ (after_forgetting (filter (is_forgotten was) (names_of was)) view).counts name
-    count name o e =
-        reads tries_in name o e ((after_forgetting (filter (is_forgotten was) (names_of was)) view).counts name)
-        (λ f. sym (showing.counts name ∙ (none name (e ∙ f)).counts))
-        (λ r f g. sym (showing.counts name ∙ sym (some name r (e ∙ f)).counts ∙ (blank r g (own name r (e ∙ f))).tries))
-        (λ r f g. (some name r (e ∙ f)).counts ∙ sym (showing.counts name))
+    mark : (thing : Thing) → mark_in (mark_of thing) (row_of (map change (remembered parts.rows)) (name_in thing)) ≡ (after_forgetting (filter (is_forgotten was) (names_of was)) view).marks thing
+    mark thing =
+        reads (mark_in (mark_of thing)) (name_in thing) _ (λ f. sym (showing.beside.marks thing ∙ (none (name_in thing) f).marks thing refl))
+        (λ r f g. sym (showing.beside.marks thing ∙ sym ((some (name_in thing) r f).marks thing refl) ∙ (blank r g (own (name_in thing) r f)).marks thing))
+        (λ r f g. (some (name_in thing) r f).marks thing refl ∙ sym (showing.beside.marks thing))
 
 -- ---- rows that are forgotten are blank
 

@@ -1,24 +1,13 @@
 -- What the rows tell of a restart and of a loss.
-use Rattle.std.proofs.Common.{◌≡◌, ◌+◌, ℕ, List, [], ◌∷◌, Bool, cond, not, map, refl, sym, ◌∙◌, ap, subst}
-use Rattle.std.specs.Prelude.{Option, Some, None, Result, Ok, Err, OnOk, OnErr, IfErr}
-use Rattle.std.specs.List.{AllByRecursion}
-use Rattle.csi_types.specs.Model.Same.{same_text}
-use Rattle.csi_lists.proofs.Each.{each-filter}
-use Rattle.csi_lists.proofs.Filters.{filter-of_map}
-use Rattle.csi_orchestrator.specs.declared.fault.OrchFault.{OrchFault}
-use Rattle.csi_orchestrator.specs.declared.row.Goal.{Goal}
-use Rattle.csi_orchestrator.specs.declared.row.Goal.TheVariants.{Create, Use, Stop, Delete}
-use Rattle.csi_orchestrator.specs.declared.row.Row.{Row}
-use Rattle.csi_orchestrator.specs.declared.state.OrchestratorCore.{OrchestratorCore}
-use Rattle.csi_orchestrator.specs.Model.Moves.{Input, Answer, Restarts, Loses, Restarted, GivenUp, without_node}
-use Rattle.csi_orchestrator.specs.Model.Shown.{RowShown, OrchestratorParts}
-use Rattle.csi_orchestrator.specs.Public.Beginning.{is_row_forgotten, remembered, restart_refusal, loss_refusal, restarted_parts, entry_at_loss, stopped_at, row_at_loss, parts_at_loss}
-use Rattle.csi_orchestrator.specs.Public.Catalog.{rows_of}
-use Rattle.csi_orchestrator.specs.Public.CoreParts.{orchestrator_parts_shown}
-use Rattle.csi_orchestrator.specs.Public.RowMoves.{MovedRows, moved_rows, IsRefusal}
-use Rattle.csi_orchestrator.specs.Public.Shown.{row_shown, closed}
-use Rattle.csi_orchestrator.specs.Private.RowMoves.{moved_unless, row_moves, IsMoveOf}
-use Rattle.csi_orchestrator.specs.Private.Shown.{without_call}
+use Rattle.csi_orchestrator.proofs.Words.{◌≡◌, ◌+◌, ℕ, List, [], ◌∷◌, Bool, cond, not, map, refl, sym, ◌∙◌, ap, subst}
+use Rattle.csi_orchestrator.proofs.Words.{Option, Some, None, Result, Ok, Err, OnOk, OnErr, IfErr, AllByRecursion}
+use Rattle.csi_orchestrator.proofs.Words.{same_text, OrchFault, Goal, Use, Stop, Row, OrchestratorCore}
+use Rattle.csi_orchestrator.proofs.Words.{Input, Answer, Restarts, Loses, Restarted, GivenUp, without_node, RowShown}
+use Rattle.csi_orchestrator.proofs.Words.{OrchestratorParts, is_row_forgotten, remembered, restart_refusal}
+use Rattle.csi_orchestrator.proofs.Words.{loss_refusal, restarted_parts, entry_at_loss, stopped_at, row_at_loss}
+use Rattle.csi_orchestrator.proofs.Words.{parts_at_loss, rows_of, orchestrator_parts_shown, MovedRows, moved_rows}
+use Rattle.csi_orchestrator.proofs.Words.{IsRefusal, row_shown, closed, moved_unless, row_moves, IsMoveOf, without_call}
+use Rattle.csi_orchestrator.proofs.Lemmas.{each-filter, filter-of_map}
 use Rattle.csi_orchestrator.proofs.BeginningsAgree.{same-parts}
 
 -- ---- rows whose calls are closed
@@ -51,8 +40,6 @@ lost-of_closed node [] = refl
 lost-of_closed node (row ∷ rows) = λ i. one row.goal i ∷ lost-of_closed node rows i
   where
     one : (goal : Option Goal) → stopped_at node goal (record (closed row) { node_entries = map (entry_at_loss node) row.node_entries }) ≡ stopped_at node goal (record row { node_entries = map (entry_at_loss node) row.node_entries })
-    one None = refl
-    one (Some Create) = refl
     one (Some (Use usage)) = by (same_text usage.node node)
       where
         by : (b : Bool)
@@ -61,8 +48,7 @@ lost-of_closed node (row ∷ rows) = λ i. one row.goal i ∷ lost-of_closed nod
             ≡ cond b (let r : RowShown = record row { node_entries = map (entry_at_loss node) row.node_entries; goal = Some (Stop usage.node usage.target); open_call = None; tries = 0 } in r)
             (let r : RowShown = record row { node_entries = map (entry_at_loss node) row.node_entries; open_call = None } in r)
         by b = refl
-    one (Some (Stop there target)) = refl
-    one (Some Delete) = refl
+    one goal = refl
 
 -- ---- what is told
 

@@ -1,18 +1,11 @@
 -- What the beginning of a session adds to a history: beside its start, and the loss of a node, names are forgotten and uses stopped.
-use Rattle.std.proofs.Common.{◌≡◌, ◌+◌, ◌≤◌, ℕ, List, [], ◌∷◌, ◌++◌, length, map, Bool, true, false, cond, refl, sym, ◌∙◌, ap, arith}
-use Rattle.std.specs.Prelude.{Option, Some, None, filter, filter_map, is_none, ◌&&◌}
-use Rattle.std.specs.List.{AllByRecursion, cons_option}
-use Rattle.std.proofs.lemmas.Bool.{false≢true}
-use Rattle.std.proofs.lemmas.List.{length-map}
-use Rattle.csi_lists.proofs.Each.{each-append}
-use Rattle.csi_types.specs.declared.number.Number.{Number}
-use Rattle.csi_types.specs.Model.Same.{same_text}
-use Rattle.csi_orchestrator.specs.declared.thing.Thing.TheVariants.{Exists}
-use Rattle.csi_orchestrator.specs.Model.Thing.{is_no}
-use Rattle.csi_orchestrator.specs.Model.History.{Goal, Create, Use, Stop, Delete, Item, Forgotten, Noted, History}
-use Rattle.csi_orchestrator.specs.Model.Readings.{known, goal_of, issued_in, last_in, names_of}
-use Rattle.csi_orchestrator.specs.Model.WellFormed.{IsUnused, AreWellFormed}
-use Rattle.csi_orchestrator.specs.Model.Moves.{is_forgotten, forgetting, stopping, stopping_all}
+use Rattle.csi_orchestrator.proofs.Words.{◌≡◌, ◌+◌, ◌≤◌, ℕ, List, [], ◌∷◌, ◌++◌, length, map, Bool, true, false, cond}
+use Rattle.csi_orchestrator.proofs.Words.{refl, sym, ◌∙◌, ap, arith, Option, Some, None, filter, filter_map, is_none}
+use Rattle.csi_orchestrator.proofs.Words.{◌&&◌, AllByRecursion, cons_option, Number, same_text, Exists, is_no, Item}
+use Rattle.csi_orchestrator.proofs.Words.{Forgotten, Noted, History, known, goal_of, issued_in, last_in, names_of}
+use Rattle.csi_orchestrator.proofs.Words.{IsUnused, AreWellFormed, is_forgotten, forgetting, stopping, stopping_all}
+use Rattle.csi_orchestrator.proofs.Lemmas.{false≢true, length-map, each-append}
+use Rattle.csi_orchestrator.specs.Model.History.{Goal, Use, Stop}
 
 -- a name is forgotten, or something is noted
 abbrev pub IsAside : Item → Type 0
@@ -31,15 +24,12 @@ forgotten-aside (name ∷ names) = (tt, forgotten-aside names)
 
 -- a use that is stopped
 stop-aside : (node name : List ℕ) (goal : Option Goal) (rest : List Item) → AreAside rest → AreAside (cons_option (stopping node name goal) rest)
-stop-aside node name None rest aside = aside
-stop-aside node name (Some (Create arguments)) rest aside = aside
 stop-aside node name (Some (Use usage)) rest aside = by (same_text usage.node node)
   where
     by : (b : Bool) → AreAside (cons_option (cond b (Some (Noted name (Some (Stop usage.node usage.target)))) None) rest)
     by true = (tt, aside)
     by false = aside
-stop-aside node name (Some (Stop there target)) rest aside = aside
-stop-aside node name (Some Delete) rest aside = aside
+stop-aside node name goal rest aside = aside
 
 -- each of them
 stops-aside : (node : List ℕ) (goals : List ℕ → Option Goal) (names : List (List ℕ)) → AreAside (filter_map (λ name. stopping node name (goals name)) names)

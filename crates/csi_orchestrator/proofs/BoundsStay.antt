@@ -1,43 +1,25 @@
 -- Why what an orchestrator keeps stays within its bounds.
-use Rattle.std.proofs.Common.{◌≡◌, ◌≤◌, ℕ, List, Bool, true, false, not, length, map, refl, sym, ◌∙◌, ap, subst, arith}
-use Rattle.std.specs.Prelude.{◌&&◌, ◌||◌, Option, Some, None, is_some, is_none, nat_le, Result, Ok, Err}
-use Rattle.std.specs.List.{AllByRecursion, list_any}
-use Rattle.std.proofs.lemmas.Bool.{false≢true, or_parts}
-use Rattle.std.proofs.lemmas.List.{length-map}
-use Rattle.csi_types.specs.declared.number.Number.{Number}
-use Rattle.csi_types.specs.Model.Same.{same_text}
-use Rattle.csi_types.proofs.Equality.{same_text-tells}
-use Rattle.csi_lists.specs.Model.Members.{IsAmong}
-use Rattle.csi_lists.proofs.Each.{each-filter, each-map, each-weaker}
-use Rattle.csi_lists.proofs.Filters.{filter-no_longer}
-use Rattle.csi_lists.proofs.Members.{each_of, all_of, among-find}
-use Rattle.csi_lists.proofs.Tests.{any-then, then-any}
-use Rattle.csi_lists.proofs.Searches.{find-passes}
-use Rattle.csi_orchestrator.specs.declared.fault.OrchFault.{OrchFault}
+use Rattle.csi_orchestrator.proofs.Words.{◌≡◌, ◌≤◌, ℕ, List, Bool, true, false, not, length, map, refl, sym, ◌∙◌, ap}
+use Rattle.csi_orchestrator.proofs.Words.{subst, arith, ◌&&◌, ◌||◌, Option, Some, None, is_some, is_none, nat_le}
+use Rattle.csi_orchestrator.proofs.Words.{Result, Ok, Err, AllByRecursion, list_any, Number, same_text, IsAmong}
+use Rattle.csi_orchestrator.proofs.Words.{OrchFault, Goal, Create, Outgoing, Step, Maybe, is_no, is_yes, Input}
+use Rattle.csi_orchestrator.proofs.Words.{without_node, NodeEntryShown, RowShown, OrchestratorParts, node_entry_of}
+use Rattle.csi_orchestrator.proofs.Words.{mark_in, mark_of, closed, Attached, is_row_forgotten, remembered, is_used_in}
+use Rattle.csi_orchestrator.proofs.Words.{leaves_out_used, restart_refusal, entry_at_loss, row_at_loss, due_in, new_row}
+use Rattle.csi_orchestrator.proofs.Words.{entry_for, with_entry, stopped_goal, wanted_row, known_by_success_of, is_last}
+use Rattle.csi_orchestrator.proofs.Words.{others_count, others_attached, use_refusal, room_refusal, step_refusal}
+use Rattle.csi_orchestrator.proofs.Words.{late_refusal, MovedRow, outgoing_by, row_moved, row_sends_due, row_rests}
+use Rattle.csi_orchestrator.proofs.Words.{row_unless, is_step_met, waits, is_given_up, timed_out, failed}
+use Rattle.csi_orchestrator.proofs.Words.{row_before_call, row_step, MovedRows, moved_rows, row_moves, HasFewTargets}
+use Rattle.csi_orchestrator.proofs.Words.{HasFewNodes, IsBounded, IsEntryWithin, AreEntriesWithin, AreWithin, IsWithin}
+use Rattle.csi_orchestrator.proofs.Words.{next_number, next_session, IsSoundRow, AreSoundRows, AreNodesApart, IsAtRest}
+use Rattle.csi_orchestrator.proofs.Words.{IsSteadyRow, AreSteadyRows}
+use Rattle.csi_orchestrator.proofs.Lemmas.{false≢true, or_parts, length-map, same_text-tells, each-filter, each-map}
+use Rattle.csi_orchestrator.proofs.Lemmas.{each-weaker, filter-no_longer, each_of, all_of, among-find, any-then}
+use Rattle.csi_orchestrator.proofs.Lemmas.{then-any, find-passes}
 use Rattle.csi_orchestrator.specs.declared.fault.OrchFault.TheVariants as faults
-use Rattle.csi_orchestrator.specs.declared.row.Goal.{Goal}
-use Rattle.csi_orchestrator.specs.declared.row.Goal.TheVariants.{Create}
-use Rattle.csi_orchestrator.specs.declared.sending.Outgoing.{Outgoing}
-use Rattle.csi_orchestrator.specs.declared.step.Step.{Step}
 use Rattle.csi_orchestrator.specs.declared.step.Step.TheVariants as steps
-use Rattle.csi_orchestrator.specs.declared.thing.Known.TheVariants.{Maybe}
-use Rattle.csi_orchestrator.specs.Model.Thing.{is_no, is_yes}
 use Rattle.csi_orchestrator.specs.Model.History.{Usage}
-use Rattle.csi_orchestrator.specs.Model.Moves.{Input, without_node}
-use Rattle.csi_orchestrator.specs.Model.Shown.{NodeEntryShown, RowShown, OrchestratorParts, node_entry_of, mark_in, mark_of}
-use Rattle.csi_orchestrator.specs.Public.Shown.{closed}
-use Rattle.csi_orchestrator.specs.declared.thing.Thing.TheVariants.{Attached}
-use Rattle.csi_orchestrator.specs.Public.Beginning.{is_row_forgotten, remembered, is_used_in, leaves_out_used, restart_refusal, entry_at_loss, row_at_loss}
-use Rattle.csi_orchestrator.specs.Public.RowDue.{due_in}
-use Rattle.csi_orchestrator.specs.Private.RowChanges.{new_row, entry_for, with_entry, stopped_goal, wanted_row, known_by_success_of}
-use Rattle.csi_orchestrator.specs.Private.RowRefusals.{is_last, others_count, others_attached, use_refusal, room_refusal, step_refusal, late_refusal}
-use Rattle.csi_orchestrator.specs.Private.RowSteps.{MovedRow, outgoing_by, row_moved, row_sends_due, row_rests, row_unless, is_step_met, waits, is_given_up, timed_out, failed, row_before_call, row_step}
-use Rattle.csi_orchestrator.specs.Public.RowMoves.{MovedRows, moved_rows}
-use Rattle.csi_orchestrator.specs.Private.RowMoves.{row_moves}
-use Rattle.csi_orchestrator.specs.Public.Bounds.{HasFewTargets, HasFewNodes, IsBounded, IsEntryWithin, AreEntriesWithin, AreWithin, IsWithin}
-use Rattle.csi_orchestrator.specs.Model.Commands.{next_number, next_session}
-use Rattle.csi_orchestrator.specs.Public.Sound.{IsSoundRow, AreSoundRows, AreNodesApart}
-use Rattle.csi_orchestrator.specs.Public.Steady.{IsAtRest, IsSteadyRow, AreSteadyRows}
 use Rattle.csi_orchestrator.proofs.EntryRules.{by_if, each-put}
 use Rattle.csi_orchestrator.proofs.JoinedLists.{own-entry}
 use Rattle.csi_orchestrator.proofs.KeptInUse.{idle-used, used-needed, steady-attached}

@@ -1,14 +1,9 @@
 -- What is written where an entry is found, and at the end where none is.
-use Rattle.std.proofs.Common.{◌≡◌, ◌<◌, ℕ, zero, suc, Bool, true, false, cond, List, [], ◌∷◌, ◌++◌, length, get_or, map, set, refl, sym, ◌∙◌, ap, subst, arith}
-use Rattle.std.specs.Prelude.{Option, Some, None, is_some, find, position, option_map}
-use Rattle.std.proofs.lemmas.List.Folds.{list_any_at}
-use Rattle.std.proofs.lemmas.List.{map-id, map-append}
-use Rattle.std.proofs.lemmas.List.Quantifiers.{position-Some}
-use Rattle.csi_lists.proofs.Options.{some_is_not_none}
-use Rattle.csi_lists.proofs.Searches.{find-no_place, find-of_map}
-use Rattle.csi_lists.proofs.Tests.{any-find}
-use Rattle.csi_types.specs.Model.Same.{same_text}
-use Rattle.csi_orchestrator.specs.Private.Keyed.{change_by, put_by}
+use Rattle.csi_orchestrator.proofs.Words.{◌≡◌, ◌<◌, ℕ, zero, suc, Bool, true, false, cond, List, [], ◌∷◌, ◌++◌, length}
+use Rattle.csi_orchestrator.proofs.Words.{get_or, map, set, refl, sym, ◌∙◌, ap, subst, arith, Option, Some, None}
+use Rattle.csi_orchestrator.proofs.Words.{is_some, find, position, option_map, same_text, change_by, put_by}
+use Rattle.csi_orchestrator.proofs.Lemmas.{list_any_at, map-id, map-append, position-Some, some_is_not_none}
+use Rattle.csi_orchestrator.proofs.Lemmas.{find-no_place, find-of_map, any-find}
 
 -- the entry of a place, and what is written there
 find-there : {R X : Type 0} (view : R → X) (p : X → Bool) (rs : List R) (i : ℕ) (r : R) → i < length rs → p (view (get_or rs i r)) ≡ true

@@ -1,37 +1,20 @@
 -- Which row a call changes: that of the name that it is about, or the one whose open call a frame is the reply to.
-use Rattle.std.proofs.Common.{◌≡◌, ◌+◌, ℕ, zero, suc, List, [], ◌∷◌, true, length, map, drop, refl, sym, ◌∙◌, ap, subst, arith}
-use Rattle.std.specs.Prelude.{Option, Some, None, Result, Ok, Err, IfOk, OnOk}
-use Rattle.std.proofs.lemmas.Option.{none-some, same_Some}
-use Rattle.csi_lists.specs.Public.Places.{IsAt, FirstAt}
-use Rattle.csi_lists.proofs.Places.{same-at, position-first, FirstAt-is_at, FirstAt-within}
-use Rattle.csi_lists.proofs.Searches.{find-passes}
-use Rattle.csi_types.specs.declared.call.Kind.{Kind}
-use Rattle.csi_types.specs.declared.call.Party.{Party}
-use Rattle.csi_types.specs.declared.frame.Body.{Body}
+use Rattle.csi_orchestrator.proofs.Words.{◌≡◌, ◌+◌, ℕ, zero, suc, List, [], ◌∷◌, true, length, map, drop, refl, sym}
+use Rattle.csi_orchestrator.proofs.Words.{◌∙◌, ap, subst, arith, Option, Some, None, Result, Ok, Err, IfOk, OnOk, IsAt}
+use Rattle.csi_orchestrator.proofs.Words.{FirstAt, Kind, Party, Body, Number, Reply, Frame, same_text, OrchFault}
+use Rattle.csi_orchestrator.proofs.Words.{OrchestratorCore, Step, Arguments, Input, ToCreate, ToUse, ToStop, ToDelete}
+use Rattle.csi_orchestrator.proofs.Words.{TimesOut, Comes, Answer, Sends, Hears, hears, RowShown}
+use Rattle.csi_orchestrator.proofs.Words.{OrchestratorParts, row_of, open_in_row, rows_of, IsIndexed, place_by_name}
+use Rattle.csi_orchestrator.proofs.Words.{is_numbered, place_by_call, AreChangedAt, ChangesRowOf, ChangesAsHeard}
+use Rattle.csi_orchestrator.proofs.Words.{orchestrator_parts_shown, IsFiled, MovedRows, row_shown, AreSoundRows}
+use Rattle.csi_orchestrator.proofs.Words.{AreSoundParts, new_row, put, all_rows_moved, steps_at, creates, is_issued_as}
+use Rattle.csi_orchestrator.proofs.Words.{row_replied, step_heard, hears_reply, receives, row_moves, IsMoveOf}
+use Rattle.csi_orchestrator.proofs.Words.{first_fault, MovedRow, row_sends_due, row_unless, row_step}
+use Rattle.csi_orchestrator.proofs.Lemmas.{none-some, same_Some, same-at, position-first, FirstAt-is_at, FirstAt-within}
+use Rattle.csi_orchestrator.proofs.Lemmas.{find-passes, same_number-tells}
 use Rattle.csi_types.specs.declared.frame.Body.TheVariants as bodies
-use Rattle.csi_types.specs.declared.number.Number.{Number}
-use Rattle.csi_types.specs.declared.reply.Reply.{Reply}
-use Rattle.csi_types.specs.Model.Frame.{Frame}
-use Rattle.csi_types.specs.Model.Same.{same_text}
-use Rattle.csi_types.proofs.Equality.{same_number-tells}
 use Rattle.csi_orchestrator.specs.declared.fault.Heard.{Heard}
-use Rattle.csi_orchestrator.specs.declared.fault.OrchFault.{OrchFault}
-use Rattle.csi_orchestrator.specs.declared.state.OrchestratorCore.{OrchestratorCore}
-use Rattle.csi_orchestrator.specs.declared.step.Step.{Step}
 use Rattle.csi_orchestrator.specs.declared.step.Step.TheVariants as steps
-use Rattle.csi_orchestrator.specs.Model.History.{Arguments}
-use Rattle.csi_orchestrator.specs.Model.Moves.{Input, ToCreate, ToUse, ToStop, ToDelete, TimesOut, Comes, Restarts, Loses, Answer, Sends, Hears, hears}
-use Rattle.csi_orchestrator.specs.Model.Shown.{RowShown, OrchestratorParts, row_of, open_in_row}
-use Rattle.csi_orchestrator.specs.Public.Catalog.{rows_of, IsIndexed}
-use Rattle.csi_orchestrator.specs.Public.Changed.{place_by_name, is_numbered, place_by_call, AreChangedAt, ChangesRowOf, ChangesAsHeard}
-use Rattle.csi_orchestrator.specs.Public.CoreParts.{orchestrator_parts_shown, IsFiled}
-use Rattle.csi_orchestrator.specs.Public.RowMoves.{MovedRows}
-use Rattle.csi_orchestrator.specs.Public.Shown.{row_shown}
-use Rattle.csi_orchestrator.specs.Public.Sound.{AreSoundRows, AreSoundParts}
-use Rattle.csi_orchestrator.specs.Private.RowChanges.{new_row}
-use Rattle.csi_orchestrator.specs.Private.RowMoves.{put, all_rows_moved, steps_at, creates, is_issued_as, row_replied, step_heard, hears_reply, receives, row_moves, IsMoveOf}
-use Rattle.csi_orchestrator.specs.Private.RowRefusals.{first_fault}
-use Rattle.csi_orchestrator.specs.Private.RowSteps.{MovedRow, row_sends_due, row_unless, row_step}
 use Rattle.csi_orchestrator.proofs.OpenCallPlaces.{placed, numbered-noted}
 use Rattle.csi_orchestrator.proofs.OpenCalls.{GoesOn, sends-due-goes, unless-goes, step-goes}
 use Rattle.csi_orchestrator.proofs.PutPlaces.{find-first, first-apart, IsPutAt, put-at, put-last}
@@ -122,9 +105,7 @@ name_asked (ToUse name usage) = Some name
 name_asked (ToStop name node target) = Some name
 name_asked (ToDelete name) = Some name
 name_asked (TimesOut name) = Some name
-name_asked (Comes frame) = None
-name_asked (Restarts nodes) = None
-name_asked (Loses node) = None
+name_asked input = None
 
 -- a step that is asked of a name
 asked-so : (parts : OrchestratorParts) (step : Step) (other name : List ℕ) → Some other ≡ Some name → ChangesSo name parts (steps_at parts Sends step (row_of parts.rows other))
@@ -139,9 +120,7 @@ moves-change parts (ToUse other usage) name is = asked-so parts (steps.Use usage
 moves-change parts (ToStop other node target) name is = asked-so parts (steps.Stop node target) other name is
 moves-change parts (ToDelete other) name is = asked-so parts steps.Delete other name is
 moves-change parts (TimesOut other) name is = asked-so parts steps.TimeOut other name is
-moves-change parts (Comes frame) name is = absurd (none-some name is)
-moves-change parts (Restarts nodes) name is = absurd (none-some name is)
-moves-change parts (Loses node) name is = absurd (none-some name is)
+moves-change parts input name is = absurd (none-some name is)
 
 -- so it is with what a call is told by
 pub changed-promised : {R : Type 0} {old now new : OrchestratorParts} {input : Input} {says : R → Answer} {result : Result R OrchFault} (name : List ℕ) → old ≡ now → name_asked input ≡ Some name → IsMoveOf old new input says result

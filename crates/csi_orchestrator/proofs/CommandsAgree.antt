@@ -1,31 +1,20 @@
 -- Why the rows tell what the history tells of a command.
-use Rattle.std.proofs.Common.{◌≡◌, ℕ, List, [], ◌∷◌, Bool, true, false, cond, not, refl, sym, ◌∙◌, ap, subst}
-use Rattle.std.specs.Prelude.{Option, Some, None, is_some, is_none, option_and_then, Result, Ok, Err}
-use Rattle.std.proofs.lemmas.Bool.{or_parts}
-use Rattle.csi_types.specs.Model.Frame.{Frame}
-use Rattle.csi_types.specs.Model.Same.{same_text}
-use Rattle.csi_lists.proofs.Options.{none-from_is_some}
-use Rattle.csi_orchestrator.specs.declared.fault.OrchFault.{OrchFault}
+use Rattle.csi_orchestrator.proofs.Words.{◌≡◌, ℕ, List, [], ◌∷◌, Bool, true, false, cond, not, refl, sym, ◌∙◌, ap}
+use Rattle.csi_orchestrator.proofs.Words.{subst, Option, Some, None, is_some, is_none, option_and_then, Result, Ok, Err}
+use Rattle.csi_orchestrator.proofs.Words.{Frame, same_text, OrchFault, Use, Stop, Delete, Exists, is_yes, is_no}
+use Rattle.csi_orchestrator.proofs.Words.{Arguments, Noted, History, known, IsWellFormed, create_fault, use_fault}
+use Rattle.csi_orchestrator.proofs.Words.{use_room_fault, stop_fault, delete_fault, delete_busy_fault, Answer, Sends}
+use Rattle.csi_orchestrator.proofs.Words.{Moved, met_already, send_due, command, use_when, delete_when, after_noted}
+use Rattle.csi_orchestrator.proofs.Words.{RowShown, OrchestratorParts, row_of, open_in_row, orchestrator_view, Shows}
+use Rattle.csi_orchestrator.proofs.Words.{wanted_row, new_row, row_wanted_anew, with_entry, first_fault, again_fault}
+use Rattle.csi_orchestrator.proofs.Words.{use_refusal, room_refusal, stop_refusal, delete_refusal, busy_refusal, due_by}
+use Rattle.csi_orchestrator.proofs.Words.{MovedRow, row_sends_due, row_rests, row_unless, row_takes, all_rows_moved}
+use Rattle.csi_orchestrator.proofs.Words.{steps_at, creates, IsSoundRow, AreSoundRows, AreSteadyRowsIf}
+use Rattle.csi_orchestrator.proofs.Lemmas.{or_parts, none-from_is_some}
 use Rattle.csi_orchestrator.specs.declared.fault.OrchFault.TheVariants as faults
-use Rattle.csi_orchestrator.specs.declared.row.Goal.TheVariants.{Use, Stop, Delete}
 use Rattle.csi_orchestrator.specs.declared.step.Step.TheVariants as steps
-use Rattle.csi_orchestrator.specs.declared.thing.Thing.TheVariants.{Exists}
-use Rattle.csi_orchestrator.specs.Model.Thing.{is_yes, is_no}
-use Rattle.csi_orchestrator.specs.Model.History.{Arguments, Usage, Goal, Noted, History}
+use Rattle.csi_orchestrator.specs.Model.History.{Usage, Goal}
 use Rattle.csi_orchestrator.specs.Model.History as wishes
-use Rattle.csi_orchestrator.specs.Model.Readings.{known}
-use Rattle.csi_orchestrator.specs.Model.WellFormed.{IsWellFormed}
-use Rattle.csi_orchestrator.specs.Model.Commands.{create_fault, use_fault, use_room_fault, stop_fault, delete_fault, delete_busy_fault}
-use Rattle.csi_orchestrator.specs.Model.Moves.{Answer, Sends, Moved, met_already, send_due, command, use_when, delete_when}
-use Rattle.csi_orchestrator.specs.Private.Following.{after_noted}
-use Rattle.csi_orchestrator.specs.Model.Shown.{RowShown, OrchestratorParts, row_of, open_in_row, orchestrator_view, Shows}
-use Rattle.csi_orchestrator.specs.Private.RowChanges.{wanted_row, new_row, row_wanted_anew, with_entry}
-use Rattle.csi_orchestrator.specs.Private.RowRefusals.{first_fault, again_fault, use_refusal, room_refusal, stop_refusal, delete_refusal, busy_refusal}
-use Rattle.csi_orchestrator.specs.Public.RowDue.{due_by}
-use Rattle.csi_orchestrator.specs.Private.RowSteps.{MovedRow, row_sends_due, row_rests, row_unless, row_takes}
-use Rattle.csi_orchestrator.specs.Private.RowMoves.{all_rows_moved, steps_at, creates}
-use Rattle.csi_orchestrator.specs.Public.Sound.{IsSoundRow, AreSoundRows}
-use Rattle.csi_orchestrator.specs.Public.Steady.{AreSteadyRowsIf}
 use Rattle.csi_orchestrator.proofs.ViewsFollow.{noted-follows}
 use Rattle.csi_orchestrator.proofs.SendingAgrees.{Tells, sends-due-tells}
 use Rattle.csi_orchestrator.proofs.StepsSound.{MaySendDue, first-held, use-free, changed-may, new-may}

@@ -1,27 +1,17 @@
 -- What a decision makes of a row is what the step makes of it, and what a use comes to is told by the entry of its node.
-use Rattle.std.proofs.Common.{◌≡◌, ℕ, List, Bool, true, false, cond, not, refl, sym, ◌∙◌, ap}
-use Rattle.std.specs.Prelude.{Option, Some, None, is_some, is_none, option_and_then, ◌&&◌, ◌||◌, nat_le, Result, Err}
-use Rattle.std.specs.List.{list_any}
-use Rattle.csi_types.specs.declared.number.Number.{Number}
-use Rattle.csi_types.specs.Model.Same.{same_text, has_capability}
-use Rattle.csi_types.specs.Model.Sharing.{allows_one_target}
+use Rattle.csi_orchestrator.proofs.Words.{◌≡◌, ℕ, List, Bool, true, false, cond, not, refl, sym, ◌∙◌, ap, Option, Some}
+use Rattle.csi_orchestrator.proofs.Words.{None, is_some, is_none, option_and_then, ◌&&◌, ◌||◌, nat_le, Result, Err}
+use Rattle.csi_orchestrator.proofs.Words.{list_any, Number, same_text, has_capability, allows_one_target, Refuse, Met}
+use Rattle.csi_orchestrator.proofs.Words.{Wait, Send, OrchFault, Marks, Usage, Step, is_yes, is_no, is_for_one_node}
+use Rattle.csi_orchestrator.proofs.Words.{uses_as_second_writer, refused_or, decided_then, decided, is_used_at}
+use Rattle.csi_orchestrator.proofs.Words.{decided_at, is_last, is_entry_otherwise, others_count, others_attached}
+use Rattle.csi_orchestrator.proofs.Words.{use_refusal, is_attached_somewhere, step_refusal, late_refusal, has_elsewhere}
+use Rattle.csi_orchestrator.proofs.Words.{MovedRow, row_sends_due, row_rests, row_unless, is_step_met, waits}
+use Rattle.csi_orchestrator.proofs.Words.{row_before_call, row_step, NodeEntryShown, RowShown, node_entry_of, closed}
+use Rattle.csi_orchestrator.proofs.Words.{others_in, marks_at, use_due}
 use Rattle.csi_orchestrator.specs.declared.decision.Decision.{Decision}
-use Rattle.csi_orchestrator.specs.declared.decision.Decision.TheVariants.{Refuse, Met, Wait, Send}
-use Rattle.csi_orchestrator.specs.declared.fault.OrchFault.{OrchFault}
 use Rattle.csi_orchestrator.specs.declared.fault.OrchFault.TheVariants as faults
-use Rattle.csi_orchestrator.specs.declared.marks.Marks.{Marks}
-use Rattle.csi_orchestrator.specs.declared.request.Usage.{Usage}
-use Rattle.csi_orchestrator.specs.declared.step.Step.{Step}
 use Rattle.csi_orchestrator.specs.declared.step.Step.TheVariants as steps
-use Rattle.csi_orchestrator.specs.Model.Thing.{is_yes, is_no}
-use Rattle.csi_orchestrator.specs.Model.Commands.{is_for_one_node, uses_as_second_writer}
-use Rattle.csi_orchestrator.specs.Private.Decisions.{refused_or, decided_then, decided, is_used_at, decided_at}
-use Rattle.csi_orchestrator.specs.Private.RowRefusals.{is_last, is_entry_otherwise, others_count, others_attached, use_refusal, is_attached_somewhere, step_refusal, late_refusal}
-use Rattle.csi_orchestrator.specs.Public.RowRefusals.{has_elsewhere}
-use Rattle.csi_orchestrator.specs.Private.RowSteps.{MovedRow, row_sends_due, row_rests, row_unless, is_step_met, waits, row_before_call, row_step}
-use Rattle.csi_orchestrator.specs.Model.Shown.{NodeEntryShown, RowShown, node_entry_of}
-use Rattle.csi_orchestrator.specs.Public.Shown.{closed}
-use Rattle.csi_orchestrator.specs.Public.RowDue.{others_in, marks_at, use_due}
 use Rattle.csi_orchestrator.proofs.DueCases.{attaching, staging, publishing}
 use Rattle.csi_orchestrator.proofs.InUse.{others-counted}
 
@@ -43,20 +33,16 @@ decision-tells nodes last step row decision is =
     by : (fault : Option OrchFault) (met waiting : Bool) (late : Option OrchFault)
         → row_decided (refused_or fault (cond met Met (cond waiting Wait (refused_or late Send)))) last step row
         ≡ row_unless fault (cond met (row_rests row) (cond waiting (row_rests (closed row)) (row_unless late (row_sends_due last (row_before_call step row)))))
-    by (Some fault) met waiting late = refl
-    by None true waiting late = refl
-    by None false true late = refl
-    by None false false (Some fault) = refl
     by None false false None = refl
+    by fault met waiting late = refl
 
 -- a step for which a call is sent isn't met yet
 pub sends-unmet : (nodes : List (List ℕ)) (last : Number) (step : Step) (row : RowShown) → Send ≡ decided nodes last step row → is_step_met step row ≡ false
 sends-unmet nodes last step row is = by (step_refusal nodes last step row) (is_step_met step row) is
   where
     by : (fault : Option OrchFault) (met : Bool) → Send ≡ refused_or fault (cond met Met (cond (waits step row) Wait (refused_or (late_refusal last step row) Send))) → met ≡ false
-    by (Some fault) met e = cc
-    by None true e = cc
     by None false e = refl
+    by fault met e = cc
 
 -- no delete is refused for want of memory
 pub deletes-without : (nodes : List (List ℕ)) (last : Number) (row : RowShown) → Refuse faults.NoMemory ≡ decided nodes last steps.Delete row → ⊥
@@ -67,12 +53,8 @@ deletes-without nodes last row is = by (is_none row.id) (is_attached_somewhere r
         ≡ refused_or (cond unknown (Some faults.NotCreated) (cond attached (Some faults.InUse) None))
         (cond gone Met (refused_or (cond busy (Some faults.Busy) (cond spent (Some faults.NumbersSpent) None)) Send))
         → ⊥
-    by true attached gone busy spent e = cc
-    by false true gone busy spent e = cc
-    by false false true busy spent e = cc
-    by false false false true spent e = cc
     by false false false false true e = cc
-    by false false false false false e = cc
+    by unknown attached gone busy spent e = cc
 
 -- ---- a use, by the entry of its node
 
@@ -85,10 +67,8 @@ none-due usage marks (Some id) = by (is_yes marks.attached) (is_yes marks.staged
     by : (attached staged published : Bool)
         → is_none (cond (not attached) (Some (attaching usage id)) (cond (not staged) (Some (staging usage id)) (cond (not published) (Some (publishing usage id)) None)))
         ≡ (attached && staged && published)
-    by false staged published = refl
-    by true false published = refl
-    by true true false = refl
     by true true true = refl
+    by attached staged published = refl
 
 -- its tests, one after another
 abbrev tested : Bool → Bool → Bool → Bool → Bool → Decision
@@ -100,12 +80,8 @@ tests-first : (otherwise taken met spent full : Bool)
     → tested otherwise taken met spent full
     ≡ refused_or (cond otherwise (Some faults.HeldOtherwise) (cond taken (Some faults.TargetTaken) None))
     (cond met Met (refused_or (cond spent (Some faults.NumbersSpent) (cond full (Some faults.Full) None)) Send))
-tests-first true taken met spent full = refl
-tests-first false true met spent full = refl
-tests-first false false true spent full = refl
-tests-first false false false true full = refl
 tests-first false false false false true = refl
-tests-first false false false false false = refl
+tests-first otherwise taken met spent full = refl
 
 -- what none of these reasons refuses is refused for the others, or not
 none-holds : (made busy known able elsewhere written : Bool) (rest : Option OrchFault) → made ≡ true → busy ≡ false → known ≡ true → able ≡ true → elsewhere ≡ false → written ≡ false

@@ -1,27 +1,15 @@
 -- What is due for a row once it took a step, by what is found before the row is changed.
-use Rattle.std.proofs.Common.{◌≡◌, ◌++◌, ℕ, List, [], ◌∷◌, Bool, true, false, cond, not, refl, sym, ◌∙◌, ap, subst}
-use Rattle.std.specs.Prelude.{Option, Some, None, find, is_some, is_none, option_and_then, ◌&&◌, ◌||◌, Result, Ok, Err, IfErr, OnErr, IsErrAnd}
-use Rattle.std.specs.List.{list_any}
-use Rattle.std.proofs.lemmas.Bool.{false≢true}
-use Rattle.std.proofs.lemmas.List.Folds.{list_any-append}
-use Rattle.csi_types.specs.declared.number.Number.{Number}
-use Rattle.csi_types.specs.Model.Same.{same_text}
-use Rattle.csi_orchestrator.specs.declared.decision.Decision.TheVariants.{Send}
-use Rattle.csi_orchestrator.specs.declared.sending.Outgoing.{Outgoing}
-use Rattle.csi_orchestrator.specs.declared.row.Goal.TheVariants.{Use}
-use Rattle.csi_orchestrator.specs.declared.row.TargetEntry.{TargetEntry}
-use Rattle.csi_orchestrator.specs.declared.request.Usage.{Usage}
-use Rattle.csi_orchestrator.specs.declared.step.Step.{Step}
+use Rattle.csi_orchestrator.proofs.Words.{◌≡◌, ◌++◌, ℕ, List, [], ◌∷◌, Bool, true, false, cond, not, refl, sym, ◌∙◌, ap}
+use Rattle.csi_orchestrator.proofs.Words.{subst, Option, Some, None, find, is_some, is_none, option_and_then, ◌&&◌}
+use Rattle.csi_orchestrator.proofs.Words.{◌||◌, Result, Ok, Err, IfErr, OnErr, IsErrAnd, list_any, Number, same_text}
+use Rattle.csi_orchestrator.proofs.Words.{Send, Outgoing, Use, TargetEntry, Usage, Step, Attached, Staged, Published}
+use Rattle.csi_orchestrator.proofs.Words.{is_no, next_number, Due, wanted_row, with_entry, entry_for, with_target}
+use Rattle.csi_orchestrator.proofs.Words.{new_target_entry, NodeEntryShown, RowShown, node_entry_of, others_in}
+use Rattle.csi_orchestrator.proofs.Words.{marks_at, use_due, due_with, due_by, due_in, decided, outgoing_by, row_moved}
+use Rattle.csi_orchestrator.proofs.Words.{row_sends_due, is_step_met, needs_entry, row_before_call, row_step}
+use Rattle.csi_orchestrator.proofs.Words.{SendsNothing}
+use Rattle.csi_orchestrator.proofs.Lemmas.{false≢true, list_any-append}
 use Rattle.csi_orchestrator.specs.declared.step.Step.TheVariants as steps
-use Rattle.csi_orchestrator.specs.declared.thing.Thing.TheVariants.{Attached, Staged, Published}
-use Rattle.csi_orchestrator.specs.Model.Thing.{is_no}
-use Rattle.csi_orchestrator.specs.Model.Commands.{next_number}
-use Rattle.csi_orchestrator.specs.Model.Due.{Due}
-use Rattle.csi_orchestrator.specs.Private.RowChanges.{wanted_row, with_entry, entry_for, with_target, new_target_entry}
-use Rattle.csi_orchestrator.specs.Model.Shown.{NodeEntryShown, RowShown, node_entry_of}
-use Rattle.csi_orchestrator.specs.Public.RowDue.{others_in, marks_at, use_due, due_with, due_by, due_in}
-use Rattle.csi_orchestrator.specs.Private.Decisions.{decided}
-use Rattle.csi_orchestrator.specs.Private.RowSteps.{outgoing_by, row_moved, row_sends_due, is_step_met, needs_entry, row_before_call, row_step, SendsNothing}
 use Rattle.csi_orchestrator.proofs.DecisionsTold.{decision-tells, sends-unmet}
 use Rattle.csi_orchestrator.proofs.TextLists.{text-same}
 use Rattle.csi_orchestrator.proofs.RowsAfterNotes.{mark-with-entry, entry-there}

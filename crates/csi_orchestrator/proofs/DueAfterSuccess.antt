@@ -1,17 +1,7 @@
 -- Which call is due for a row once the one that was due succeeded, by what was known before.
-use Rattle.std.proofs.Common.{◌≡◌, ℕ, refl, ◌∙◌, ap, subst}
-use Rattle.std.specs.Prelude.{Option, Some, None}
-use Rattle.std.specs.Option.{option_or}
-use Rattle.csi_types.specs.declared.call.Kind.{Kind}
-use Rattle.csi_types.specs.Model.Call.{kind_of}
-use Rattle.csi_orchestrator.specs.declared.row.Goal.{Goal}
-use Rattle.csi_orchestrator.specs.Model.Due.{Due}
-use Rattle.csi_orchestrator.specs.Private.Found.{kind_due}
-use Rattle.csi_orchestrator.specs.Private.Hearing.{due_heard}
-use Rattle.csi_orchestrator.specs.Public.Sound.{IsSoundRow}
-use Rattle.csi_orchestrator.specs.Private.RowChanges.{marked_row, known_by_success_of, id_told, succeeded_row}
-use Rattle.csi_orchestrator.specs.Model.Shown.{RowShown}
-use Rattle.csi_orchestrator.specs.Public.RowDue.{due_with, due_by, due_in}
+use Rattle.csi_orchestrator.proofs.Words.{◌≡◌, ℕ, refl, ◌∙◌, ap, subst, Option, Some, None, option_or, Kind, kind_of}
+use Rattle.csi_orchestrator.proofs.Words.{Goal, Due, kind_due, due_heard, IsSoundRow, marked_row, known_by_success_of}
+use Rattle.csi_orchestrator.proofs.Words.{id_told, succeeded_row, RowShown, due_with, due_by, due_in}
 use Rattle.csi_orchestrator.proofs.DueCases.{due-cases}
 use Rattle.csi_orchestrator.proofs.RowMarks.{has-entry, marks-then}
 use Rattle.csi_orchestrator.proofs.RowsAfterSending.{marks-same}

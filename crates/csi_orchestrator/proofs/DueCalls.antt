@@ -1,23 +1,16 @@
 -- Why the call that is due is read from the row.
-use Rattle.std.proofs.Common.{◌≡◌, ℕ, List, [], ◌∷◌, Bool, true, false, cond, not, refl, sym, ◌∙◌, ap, subst, inl}
-use Rattle.std.specs.Prelude.{Option, Some, None, option_map, option_and_then, length, nat_lt}
-use Rattle.std.specs.List.{AllByRecursion}
-use Rattle.csi_types.specs.declared.call.Kind.{Kind}
+use Rattle.csi_orchestrator.proofs.Words.{◌≡◌, ℕ, List, [], ◌∷◌, Bool, true, false, cond, not, refl, sym, ◌∙◌, ap}
+use Rattle.csi_orchestrator.proofs.Words.{subst, inl, Option, Some, None, option_map, option_and_then, length, nat_lt}
+use Rattle.csi_orchestrator.proofs.Words.{AllByRecursion, Kind, same_text, Marks, Known, Exists, Attached, Staged}
+use Rattle.csi_orchestrator.proofs.Words.{Published, is_yes, is_no, History, id_of, Due, call_for, targets_in_use}
+use Rattle.csi_orchestrator.proofs.Words.{due_use, due_leave, due_stop, due_for, due_call, RowShown, row_of}
+use Rattle.csi_orchestrator.proofs.Words.{node_entry_of, mark_in, publication_known, mark_of, goal_shown, goal_in}
+use Rattle.csi_orchestrator.proofs.Words.{AreTargetsApart, others_in, marks_for, use_due, delete_due, due_by, due_in}
+use Rattle.csi_orchestrator.proofs.Lemmas.{among-find, each_of, some-has}
 use Rattle.csi_types.specs.declared.call.Kind.TheVariants as kinds
-use Rattle.csi_lists.proofs.Members.{among-find, each_of, some-has}
-use Rattle.csi_types.specs.Model.Same.{same_text}
-use Rattle.csi_orchestrator.specs.declared.marks.Marks.{Marks}
 use Rattle.csi_orchestrator.specs.declared.row.Goal.{Goal as KeptGoal}
 use Rattle.csi_orchestrator.specs.declared.row.Goal.TheVariants as kept
-use Rattle.csi_orchestrator.specs.declared.thing.Known.{Known}
-use Rattle.csi_orchestrator.specs.declared.thing.Thing.TheVariants.{Exists, Attached, Staged, Published}
-use Rattle.csi_orchestrator.specs.Model.Thing.{is_yes, is_no}
-use Rattle.csi_orchestrator.specs.Model.History.{Usage, Create, Use, Stop, Delete, History}
-use Rattle.csi_orchestrator.specs.Model.Readings.{id_of}
-use Rattle.csi_orchestrator.specs.Model.Due.{Due, call_for, targets_in_use, due_use, due_leave, due_stop, due_for, due_call}
-use Rattle.csi_orchestrator.specs.Model.Shown.{RowShown, row_of, node_entry_of, mark_in, publication_known, mark_of, goal_shown, goal_in}
-use Rattle.csi_orchestrator.specs.Public.Shown.{AreTargetsApart}
-use Rattle.csi_orchestrator.specs.Public.RowDue.{others_in, marks_for, use_due, delete_due, due_by, due_in}
+use Rattle.csi_orchestrator.specs.Model.History.{Usage, Create, Use, Stop, Delete}
 use Rattle.csi_orchestrator.specs.Private.RowDue.{DueIsTold}
 use Rattle.csi_orchestrator.proofs.InUse.{in-use-alike}
 use Rattle.csi_orchestrator.proofs.RowViews.{IsRowOf, is-row-of}

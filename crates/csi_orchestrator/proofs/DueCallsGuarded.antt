@@ -1,31 +1,16 @@
 -- Why the call that is due for a row may be sent.
-use Rattle.std.proofs.Common.{◌≡◌, ◌≢◌, ℕ, List, Bool, true, false, not, refl, sym, ◌∙◌, ap, subst, inr}
-use Rattle.std.specs.Prelude.{Option, Some, None, option_map, ◌&&◌}
-use Rattle.std.specs.List.{AllByRecursion}
-use Rattle.std.proofs.lemmas.Bool.{false≢true, true_from_ne_false, or_parts}
+use Rattle.csi_orchestrator.proofs.Words.{◌≡◌, ◌≢◌, ℕ, List, Bool, true, false, not, refl, sym, ◌∙◌, ap, subst, inr}
+use Rattle.csi_orchestrator.proofs.Words.{Option, Some, None, option_map, ◌&&◌, AllByRecursion, IsAmong, same_text}
+use Rattle.csi_orchestrator.proofs.Words.{is_single_node, Thing, Exists, Attached, Staged, Published, Yes, No, name_in}
+use Rattle.csi_orchestrator.proofs.Words.{is_yes, is_no, Held, History, known, held, open_call, Due, is_for_one_node}
+use Rattle.csi_orchestrator.proofs.Words.{uses_as_second_writer, CanBeHeldToo, holding_by, IsGuarded, MayIssue}
+use Rattle.csi_orchestrator.proofs.Words.{NodeEntryShown, RowShown, node_entry_of, mark_in, publication_known, mark_of}
+use Rattle.csi_orchestrator.proofs.Words.{held_at, AreTargetsApart, others_in, due_in, is_so_elsewhere, has_elsewhere}
+use Rattle.csi_orchestrator.proofs.Words.{IsUsable, MayBeWanted}
+use Rattle.csi_orchestrator.proofs.Lemmas.{false≢true, true_from_ne_false, or_parts, among-find, each_of, some-has}
+use Rattle.csi_orchestrator.proofs.Lemmas.{find-passes, same_Some, none-some, then-any, same_text-tells}
 use Rattle.csi_types.specs.Public.Holding.{CanHoldBoth}
-use Rattle.csi_lists.specs.Model.Members.{IsAmong}
-use Rattle.csi_lists.proofs.Members.{among-find, each_of, some-has}
-use Rattle.csi_lists.proofs.Searches.{find-passes}
-use Rattle.std.proofs.lemmas.Option.{same_Some, none-some}
-use Rattle.csi_lists.proofs.Tests.{then-any}
-use Rattle.csi_types.specs.Model.Same.{same_text}
-use Rattle.csi_types.specs.Model.Sharing.{is_single_node}
-use Rattle.csi_types.proofs.Equality.{same_text-tells}
-use Rattle.csi_orchestrator.specs.declared.thing.Thing.{Thing}
-use Rattle.csi_orchestrator.specs.declared.thing.Thing.TheVariants.{Exists, Attached, Staged, Published}
-use Rattle.csi_orchestrator.specs.declared.thing.Known.TheVariants.{Yes, No}
-use Rattle.csi_orchestrator.specs.Model.Thing.{name_in, is_yes, is_no}
-use Rattle.csi_orchestrator.specs.Model.History.{Usage, Held, History}
-use Rattle.csi_orchestrator.specs.Model.Readings.{known, held, open_call}
-use Rattle.csi_orchestrator.specs.Model.Due.{Due}
-use Rattle.csi_orchestrator.specs.Model.Commands.{is_for_one_node, uses_as_second_writer}
-use Rattle.csi_orchestrator.specs.Public.Guards.{CanBeHeldToo, holding_by, IsGuarded, MayIssue}
-use Rattle.csi_orchestrator.specs.Model.Shown.{NodeEntryShown, RowShown, node_entry_of, mark_in, publication_known, mark_of, held_at}
-use Rattle.csi_orchestrator.specs.Public.Shown.{AreTargetsApart}
-use Rattle.csi_orchestrator.specs.Public.RowDue.{others_in, due_in}
-use Rattle.csi_orchestrator.specs.Public.RowRefusals.{is_so_elsewhere, has_elsewhere}
-use Rattle.csi_orchestrator.specs.Public.Sound.{IsUsable, MayBeWanted}
+use Rattle.csi_orchestrator.specs.Model.History.{Usage}
 use Rattle.csi_orchestrator.proofs.DueCases.{IsDueFor, due-cases, ToMake, ToRemove, ToAttach, ToStage, ToPublish, ToUnpublish, ToUnstage, ToDetach}
 use Rattle.csi_orchestrator.proofs.InUse.{in-use-alike, target-in-use}
 use Rattle.csi_orchestrator.proofs.KnownTests.{yes_is_yes, no_is_no, not_yes, not_no, yes_not_no, is_not_no}

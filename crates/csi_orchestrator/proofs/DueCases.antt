@@ -1,17 +1,10 @@
 -- The eight ways in which a call is due for a row.
-use Rattle.std.proofs.Common.{◌≡◌, ℕ, List, Bool, true, false, cond, not, refl, subst}
-use Rattle.std.specs.Prelude.{Option, Some, None, option_and_then}
-use Rattle.std.proofs.lemmas.Option.{same_Some, none-some}
+use Rattle.csi_orchestrator.proofs.Words.{◌≡◌, ℕ, List, Bool, true, false, cond, not, refl, subst, Option, Some, None}
+use Rattle.csi_orchestrator.proofs.Words.{option_and_then, Controller, Node, kind_of, Goal, Create, Use, Stop, Delete}
+use Rattle.csi_orchestrator.proofs.Words.{Usage, is_yes, is_no, Due, call_for, RowShown, goal_in, marks_for, due_by}
+use Rattle.csi_orchestrator.proofs.Words.{due_in, use_due, stop_due, delete_due}
+use Rattle.csi_orchestrator.proofs.Lemmas.{same_Some, none-some}
 use Rattle.csi_types.specs.declared.call.Call.TheVariants as calls
-use Rattle.csi_types.specs.declared.call.Party.TheVariants.{Controller, Node}
-use Rattle.csi_types.specs.Model.Call.{kind_of}
-use Rattle.csi_orchestrator.specs.declared.row.Goal.{Goal}
-use Rattle.csi_orchestrator.specs.declared.row.Goal.TheVariants.{Create, Use, Stop, Delete}
-use Rattle.csi_orchestrator.specs.declared.request.Usage.{Usage}
-use Rattle.csi_orchestrator.specs.Model.Thing.{is_yes, is_no}
-use Rattle.csi_orchestrator.specs.Model.Due.{Due, call_for}
-use Rattle.csi_orchestrator.specs.Model.Shown.{RowShown, goal_in}
-use Rattle.csi_orchestrator.specs.Public.RowDue.{marks_for, due_by, due_in, use_due, stop_due, delete_due}
 
 -- the eight calls
 abbrev pub making : RowShown → Due

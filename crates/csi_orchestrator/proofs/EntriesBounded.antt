@@ -1,32 +1,17 @@
 -- How many entries a row has after what becomes of them, and which.
-use Rattle.std.proofs.Common.{◌≡◌, ◌<◌, ◌≤◌, ◌+◌, ℕ, suc, List, [], ◌∷◌, ◌++◌, Bool, true, false, cond, not, length, map, refl, sym, ◌∙◌, ap, subst, inl, inr, arith}
-use Rattle.std.specs.Prelude.{◌≢◌, ◌&&◌, Option, Some, None, is_some, filter, find, count_by, nat_le}
-use Rattle.std.specs.List.{AllByRecursion, list_any}
-use Rattle.std.proofs.lemmas.Bool.{false≢true}
-use Rattle.std.proofs.lemmas.Bool.Decides.{nat_tests}
-use Rattle.std.proofs.lemmas.List.{length-map, length_push}
-use Rattle.std.proofs.lemmas.Option.{none-some}
-use Rattle.csi_types.specs.declared.call.Kind.{Kind}
-use Rattle.csi_types.specs.Model.Same.{same_text}
-use Rattle.csi_types.proofs.Equality.{same_text-tells}
-use Rattle.csi_lists.specs.Model.Members.{IsAmong}
-use Rattle.csi_lists.proofs.Counts.{count-cons}
-use Rattle.csi_lists.proofs.Each.{each-filter, each-map}
-use Rattle.csi_lists.proofs.Filters.{filter-no_longer}
-use Rattle.csi_lists.proofs.Members.{among-find}
-use Rattle.csi_orchestrator.specs.declared.row.Goal.{Goal}
-use Rattle.csi_orchestrator.specs.declared.row.Goal.TheVariants.{Use, Stop}
-use Rattle.csi_orchestrator.specs.declared.row.TargetEntry.{TargetEntry}
-use Rattle.csi_orchestrator.specs.declared.thing.Known.{Known}
-use Rattle.csi_orchestrator.specs.declared.thing.Known.TheVariants.{Yes, No, Maybe}
-use Rattle.csi_orchestrator.specs.Model.Thing.{is_no}
+use Rattle.csi_orchestrator.proofs.Words.{◌≡◌, ◌<◌, ◌≤◌, ◌+◌, ℕ, suc, List, [], ◌∷◌, ◌++◌, Bool, true, false, cond, not}
+use Rattle.csi_orchestrator.proofs.Words.{length, map, refl, sym, ◌∙◌, ap, subst, inl, inr, arith, ◌≢◌, ◌&&◌, Option}
+use Rattle.csi_orchestrator.proofs.Words.{Some, None, is_some, filter, find, count_by, nat_le, AllByRecursion, list_any}
+use Rattle.csi_orchestrator.proofs.Words.{Kind, same_text, IsAmong, Goal, Use, Stop, TargetEntry, Known, Yes, No, Maybe}
+use Rattle.csi_orchestrator.proofs.Words.{is_no, NodeEntryShown, RowShown, node_entry_of, Aspect, Existence, Attachment}
+use Rattle.csi_orchestrator.proofs.Words.{Staging, Publication, aspect_of, node_marked, marked_at, at_goal}
+use Rattle.csi_orchestrator.proofs.Words.{nodes_marked, marked_row, is_target_kept, with_kept_targets, is_node_kept}
+use Rattle.csi_orchestrator.proofs.Words.{tidied_entries, new_target_entry, with_target, held_as, entry_for, with_entry}
+use Rattle.csi_orchestrator.proofs.Words.{others_count, others_attached, change_by, put_by, IsEntryWithin}
+use Rattle.csi_orchestrator.proofs.Words.{AreEntriesWithin, AreWithin, IsNeeded}
+use Rattle.csi_orchestrator.proofs.Lemmas.{false≢true, nat_tests, length-map, length_push, none-some, same_text-tells}
+use Rattle.csi_orchestrator.proofs.Lemmas.{count-cons, each-filter, each-map, filter-no_longer, among-find}
 use Rattle.csi_orchestrator.specs.Model.History.{Usage}
-use Rattle.csi_orchestrator.specs.Model.Shown.{NodeEntryShown, RowShown, node_entry_of}
-use Rattle.csi_orchestrator.specs.Private.RowChanges.{Aspect, Existence, Attachment, Staging, Publication, aspect_of, node_marked, marked_at, at_goal, nodes_marked, marked_row, is_target_kept, with_kept_targets, is_node_kept, tidied_entries, new_target_entry, with_target, held_as, entry_for, with_entry}
-use Rattle.csi_orchestrator.specs.Private.RowRefusals.{others_count, others_attached}
-use Rattle.csi_orchestrator.specs.Private.Keyed.{change_by, put_by}
-use Rattle.csi_orchestrator.specs.Public.Bounds.{IsEntryWithin, AreEntriesWithin, AreWithin}
-use Rattle.csi_orchestrator.specs.Public.Sound.{IsNeeded}
 use Rattle.csi_orchestrator.proofs.EntryRules.{by_if, each-change}
 
 -- ---- how long lists of entries are

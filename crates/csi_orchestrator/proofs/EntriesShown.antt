@@ -1,10 +1,8 @@
 -- Tests of entries, as they are kept and as they are shown, one entry after another.
-use Rattle.std.proofs.Common.{◌≡◌, ◌<◌, ◌≤◌, ◌+◌, ℕ, zero, suc, List, [], ◌∷◌, Bool, true, false, length, get_or, map, take, refl, sym, ◌∙◌, ap, arith}
-use Rattle.std.specs.Prelude.{Some, None, count_by, position, ◌||◌}
-use Rattle.std.specs.List.{list_any}
-use Rattle.std.proofs.lemmas.List.Sums.{count_by_more_yes, count_by_more_no}
-use Rattle.csi_lists.specs.Public.Places.{FirstAt}
-use Rattle.csi_lists.proofs.Places.{position-first, position-none}
+use Rattle.csi_orchestrator.proofs.Words.{◌≡◌, ◌<◌, ◌≤◌, ◌+◌, ℕ, zero, suc, List, [], ◌∷◌, Bool, true, false, length}
+use Rattle.csi_orchestrator.proofs.Words.{get_or, map, take, refl, sym, ◌∙◌, ap, arith, Some, None, count_by, position}
+use Rattle.csi_orchestrator.proofs.Words.{◌||◌, list_any, FirstAt}
+use Rattle.csi_orchestrator.proofs.Lemmas.{count_by_more_yes, count_by_more_no, position-first, position-none}
 
 -- this one passes
 pub one-here : {R X : Type 0} (view : R → X) (p : X → Bool) (rs : List R) (i : ℕ) (r : R) → i < length rs → r ≡ get_or rs i r → p (view r) ≡ true → list_any p (map view rs) ≡ true

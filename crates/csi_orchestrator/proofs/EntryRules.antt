@@ -1,12 +1,7 @@
 -- What holds of entries with keys, after one was changed or put in, and after some were taken out.
-use Rattle.std.proofs.Common.{◌≡◌, ℕ, List, [], ◌∷◌, Bool, true, false, cond, map, refl, sym, ◌∙◌, ap, subst}
-use Rattle.std.specs.Prelude.{◌||◌}
-use Rattle.std.specs.List.{AllByRecursion, list_any}
-use Rattle.csi_lists.specs.Model.Members.{EachTwo}
-use Rattle.csi_lists.proofs.Each.{each-map}
-use Rattle.csi_types.specs.Model.Same.{same_text}
-use Rattle.csi_types.proofs.Equality.{same_text-tells}
-use Rattle.csi_orchestrator.specs.Private.Keyed.{change_by, put_by}
+use Rattle.csi_orchestrator.proofs.Words.{◌≡◌, ℕ, List, [], ◌∷◌, Bool, true, false, cond, map, refl, sym, ◌∙◌, ap}
+use Rattle.csi_orchestrator.proofs.Words.{subst, ◌||◌, AllByRecursion, list_any, EachTwo, same_text, change_by, put_by}
+use Rattle.csi_orchestrator.proofs.Lemmas.{each-map, same_text-tells}
 
 -- a text has one entry
 abbrev pub AreApart : {X : Type 0} → (X → List ℕ) → List X → Type 0

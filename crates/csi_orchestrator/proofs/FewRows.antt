@@ -1,18 +1,10 @@
 -- Why what has to be spelled of a row is bounded.
-use Rattle.std.proofs.Common.{◌≡◌, ◌≤◌, ℕ, List, [], ◌∷◌, length, map, subst, arith}
-use Rattle.std.specs.Prelude.{Option, Some, None}
-use Rattle.std.specs.List.{AllByRecursion}
-use Rattle.std.proofs.lemmas.List.{length-map}
-use Rattle.csi_lists.proofs.Each.{each-weaker}
-use Rattle.csi_orchestrator.specs.declared.row.Goal.{Goal}
-use Rattle.csi_orchestrator.specs.declared.row.Goal.TheVariants.{Create, Use, Stop, Delete}
-use Rattle.csi_orchestrator.specs.declared.row.Row.{Row}
-use Rattle.csi_orchestrator.specs.Model.Shown.{RowShown, OrchestratorParts}
-use Rattle.csi_orchestrator.specs.Public.Bounds.{HasFewTargets, IsEntryWithin, AreWithin, IsRowFew}
-use Rattle.csi_orchestrator.specs.Public.Restored.{IsRestorable, AreRestorable}
-use Rattle.csi_orchestrator.specs.Public.Shown.{node_entry_shown, row_shown}
-use Rattle.csi_orchestrator.specs.Public.Sound.{AreSoundParts}
-use Rattle.csi_orchestrator.specs.Public.Steady.{HasTries, IsSteadyRow, AreSteadyRows}
+use Rattle.csi_orchestrator.proofs.Words.{◌≡◌, ◌≤◌, ℕ, List, [], ◌∷◌, length, map, subst, arith, Option, Some, None}
+use Rattle.csi_orchestrator.proofs.Words.{AllByRecursion, Goal, Stop, Row, RowShown}
+use Rattle.csi_orchestrator.proofs.Words.{OrchestratorParts, HasFewTargets, IsEntryWithin, AreWithin, IsRowFew}
+use Rattle.csi_orchestrator.proofs.Words.{IsRestorable, AreRestorable, node_entry_shown, row_shown, AreSoundParts}
+use Rattle.csi_orchestrator.proofs.Words.{HasTries, IsSteadyRow, AreSteadyRows}
+use Rattle.csi_orchestrator.proofs.Lemmas.{length-map, each-weaker}
 use Rattle.csi_orchestrator.proofs.RowsOfRecord.{each-unmapped}
 
 -- a row, as it is shown, has few tries and entries, and each of these few targets
@@ -22,12 +14,10 @@ record IsShownFew (row : RowShown) : Type 0 where
   pub targets : AllByRecursion HasFewTargets row.node_entries
 
 -- tries are counted up to 3
-few-tries : (goal : Option Goal) (tries : ℕ) → HasTries goal tries → tries ≤ 3
+pub few-tries : (goal : Option Goal) (tries : ℕ) → HasTries goal tries → tries ≤ 3
 few-tries None tries none = omega (arith, none)
 few-tries (Some (Stop node target)) tries some = some
-few-tries (Some Create) tries some = some.1
-few-tries (Some (Use usage)) tries some = some.1
-few-tries (Some Delete) tries some = some.1
+few-tries goal tries some = some.1
 
 -- so it is with the row as it is kept
 shown-few : (row : Row) → IsShownFew (row_shown row) → IsRowFew row

@@ -1,20 +1,13 @@
 -- The first row that no record has there, and the walk that finds it.
-use Rattle.std.proofs.Common.{◌≡◌, ◌<◌, ◌≤◌, ◌+◌, ◌-◌, ℕ, length, map, get_or, take, drop, Bool, true, false, List, [], ◌∷◌, ◌++◌, refl, sym, ◌∙◌, ap, subst, arith}
-use Rattle.std.specs.Prelude.{◌||◌, nat_lt}
-use Rattle.std.specs.List.{AllByRecursion, list_any}
-use Rattle.std.proofs.lemmas.Bool.{and_from, and_parts, false≢true, true≢false, lt-ltb, ltb-true, or_parts}
-use Rattle.std.proofs.lemmas.List.{length-append, length-map, length-take-le, length_push, map_push, take-append-drop, take-map, take_more}
-use Rattle.std.proofs.lemmas.List.Folds.{list_any-append}
-use Rattle.csi_lists.proofs.Each.{each-append_one}
-use Rattle.csi_lists.proofs.Members.{each_of}
-use Rattle.csi_lists.proofs.Pairs.{two-append}
-use Rattle.csi_types.specs.Model.Same.{same_text}
-use Rattle.csi_orchestrator.specs.declared.row.Row.{Row}
-use Rattle.csi_orchestrator.specs.Model.Shown.{RowShown}
+use Rattle.csi_orchestrator.proofs.Words.{◌≡◌, ◌<◌, ◌≤◌, ◌+◌, ◌-◌, ℕ, length, map, get_or, take, drop, Bool, true}
+use Rattle.csi_orchestrator.proofs.Words.{false, List, [], ◌∷◌, ◌++◌, refl, sym, ◌∙◌, ap, subst, arith, ◌||◌, nat_lt}
+use Rattle.csi_orchestrator.proofs.Words.{AllByRecursion, list_any, same_text, Row, RowShown, IsRestorable}
+use Rattle.csi_orchestrator.proofs.Words.{AreRestorable, row_shown, is_restorable, may_follow}
+use Rattle.csi_orchestrator.proofs.Lemmas.{and_from, and_parts, false≢true, true≢false, lt-ltb, ltb-true, or_parts}
+use Rattle.csi_orchestrator.proofs.Lemmas.{length-append, length-map, length-take-le, length_push, map_push}
+use Rattle.csi_orchestrator.proofs.Lemmas.{take-append-drop, take-map, take_more, list_any-append, each-append_one}
+use Rattle.csi_orchestrator.proofs.Lemmas.{each_of, two-append}
 use Rattle.csi_orchestrator.specs.Public.Judging.{IsFirstRefused}
-use Rattle.csi_orchestrator.specs.Public.Restored.{IsRestorable, AreRestorable}
-use Rattle.csi_orchestrator.specs.Public.Shown.{row_shown}
-use Rattle.csi_orchestrator.specs.Private.Judging.{is_restorable, may_follow}
 use Rattle.csi_orchestrator.proofs.JudgedRows.{restorable-from, from-restorable}
 use Rattle.csi_orchestrator.proofs.SplitLists.{any-of_none, each-left, each-right, two-left, two-there}
 

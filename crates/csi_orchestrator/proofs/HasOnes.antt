@@ -1,14 +1,9 @@
 -- What holds of a list of which one is so, and each other one otherwise.
-use Rattle.std.proofs.Common.{◌≡◌, ℕ, List, [], ◌∷◌, ◌++◌, Bool, true, false, cond, map, refl, sym, ◌∙◌, ap, subst, inl, inr}
-use Rattle.std.specs.Prelude.{Some, None, find}
-use Rattle.std.specs.List.{AllByRecursion}
-use Rattle.std.proofs.lemmas.Option.{none-some, same_Some}
-use Rattle.csi_lists.proofs.Each.{each-weaker, each-map}
-use Rattle.csi_lists.proofs.Members.{all_of, each_of}
-use Rattle.csi_types.specs.Model.Same.{same_text}
-use Rattle.csi_types.proofs.Equality.{same_text-tells}
-use Rattle.csi_orchestrator.specs.Private.Keyed.{change_by, put_by}
-use Rattle.csi_orchestrator.specs.Public.Steady.{HasOne}
+use Rattle.csi_orchestrator.proofs.Words.{◌≡◌, ℕ, List, [], ◌∷◌, ◌++◌, Bool, true, false, cond, map, refl, sym, ◌∙◌, ap}
+use Rattle.csi_orchestrator.proofs.Words.{subst, inl, inr, Some, None, find, AllByRecursion, same_text, change_by}
+use Rattle.csi_orchestrator.proofs.Words.{put_by, HasOne}
+use Rattle.csi_orchestrator.proofs.Lemmas.{none-some, same_Some, each-weaker, each-map, all_of, each_of}
+use Rattle.csi_orchestrator.proofs.Lemmas.{same_text-tells}
 use Rattle.csi_orchestrator.proofs.EntryRules.{AreApart}
 use Rattle.csi_orchestrator.proofs.TextLists.{text-same, same_text-flip}
 

@@ -1,35 +1,20 @@
 -- Where a history says that a volume may be in use, its row has an entry that says so.
-use Rattle.std.proofs.Common.{◌≡◌, ◌≢◌, ℕ, List, Bool, true, false, cond, not, length, refl, sym, ◌∙◌, ap, subst}
-use Rattle.std.specs.Prelude.{Option, Some, None, option_map, filter, filter_map, nat_lt, ◌&&◌}
-use Rattle.std.specs.List.{AllByRecursion, list_any}
-use Rattle.std.proofs.lemmas.Bool.{false≢true, false_from_ne_true, and_parts, not-true}
-use Rattle.std.proofs.lemmas.List.Sums.{length-filter}
-use Rattle.std.proofs.lemmas.Option.{same_Some}
-use Rattle.csi_lists.specs.Model.Members.{IsAmong}
-use Rattle.csi_lists.proofs.Members.{among-find, each_of, all_of, in_filter, among-kept, in-filter_map, empty-where, among-filter_map, has-some, some-has}
-use Rattle.csi_lists.proofs.Pairs.{two-filter}
-use Rattle.csi_lists.proofs.Searches.{find-passes}
-use Rattle.csi_lists.proofs.Tests.{alike, then-any, any-then}
-use Rattle.csi_lists.proofs.Counts.{any-counted}
-use Rattle.csi_lists.proofs.Filters.{filter-each}
-use Rattle.csi_types.specs.Model.Same.{same_text}
-use Rattle.csi_types.proofs.Equality.{same_text-tells}
-use Rattle.csi_orchestrator.specs.declared.row.TargetEntry.{TargetEntry}
-use Rattle.csi_orchestrator.specs.declared.thing.Known.{Known}
-use Rattle.csi_orchestrator.specs.declared.thing.Known.TheVariants.{Yes, No, Maybe}
-use Rattle.csi_orchestrator.specs.declared.thing.Thing.{Thing}
-use Rattle.csi_orchestrator.specs.declared.thing.Thing.TheVariants.{Attached, Published}
-use Rattle.csi_orchestrator.specs.Model.Thing.{Issued, name_in, thing_of, is_thing, touches, is_no}
-use Rattle.csi_orchestrator.specs.Model.History.{Usage, Held, History}
-use Rattle.csi_orchestrator.specs.Model.Readings.{since, ends, known, known_by, held, issued_in, issued_of, distinct}
-use Rattle.csi_orchestrator.specs.Model.Due.{attached_node, nodes_in_use, published_target, targets_in_use}
-use Rattle.csi_orchestrator.specs.Model.Commands.{other_nodes, held_elsewhere, is_otherwise, is_held_otherwise}
-use Rattle.csi_orchestrator.specs.Model.Shown.{NodeEntryShown, RowShown, node_entry_of, target_entry_of, mark_in, publication_known, held_at}
-use Rattle.csi_orchestrator.specs.Public.Shown.{AreTargetsApart}
-use Rattle.csi_orchestrator.specs.Public.RowDue.{others_in}
-use Rattle.csi_orchestrator.specs.Public.Sound.{AreNodesApart}
-use Rattle.csi_orchestrator.specs.Public.RowRefusals.{is_so_elsewhere, has_elsewhere}
-use Rattle.csi_orchestrator.specs.Private.RowRefusals.{is_entry_otherwise, others_count, others_attached, is_attached_somewhere}
+use Rattle.csi_orchestrator.proofs.Words.{◌≡◌, ◌≢◌, ℕ, List, Bool, true, false, cond, not, length, refl, sym, ◌∙◌, ap}
+use Rattle.csi_orchestrator.proofs.Words.{subst, Option, Some, None, option_map, filter, filter_map, nat_lt, ◌&&◌}
+use Rattle.csi_orchestrator.proofs.Words.{AllByRecursion, list_any, IsAmong, same_text, TargetEntry, Known, Yes, No}
+use Rattle.csi_orchestrator.proofs.Words.{Maybe, Thing, Attached, Published, Issued, name_in, thing_of, is_thing}
+use Rattle.csi_orchestrator.proofs.Words.{touches, is_no, Held, History, since, ends, known, known_by, held, issued_in}
+use Rattle.csi_orchestrator.proofs.Words.{issued_of, distinct, attached_node, nodes_in_use, published_target}
+use Rattle.csi_orchestrator.proofs.Words.{targets_in_use, other_nodes, held_elsewhere, is_otherwise, is_held_otherwise}
+use Rattle.csi_orchestrator.proofs.Words.{NodeEntryShown, RowShown, node_entry_of, target_entry_of, mark_in}
+use Rattle.csi_orchestrator.proofs.Words.{publication_known, held_at, AreTargetsApart, others_in, AreNodesApart}
+use Rattle.csi_orchestrator.proofs.Words.{is_so_elsewhere, has_elsewhere, is_entry_otherwise, others_count}
+use Rattle.csi_orchestrator.proofs.Words.{others_attached, is_attached_somewhere}
+use Rattle.csi_orchestrator.proofs.Lemmas.{false≢true, false_from_ne_true, and_parts, not-true, length-filter}
+use Rattle.csi_orchestrator.proofs.Lemmas.{same_Some, among-find, each_of, all_of, in_filter, among-kept, in-filter_map}
+use Rattle.csi_orchestrator.proofs.Lemmas.{empty-where, among-filter_map, has-some, some-has, two-filter, find-passes}
+use Rattle.csi_orchestrator.proofs.Lemmas.{alike, then-any, any-then, any-counted, filter-each, same_text-tells}
+use Rattle.csi_orchestrator.specs.Model.History.{Usage}
 use Rattle.csi_orchestrator.proofs.SinceItems.{since-sent}
 use Rattle.csi_orchestrator.proofs.ViewsFollow.{touches-name, latest}
 use Rattle.csi_orchestrator.proofs.JoinedLists.{own-entry}

@@ -1,10 +1,7 @@
 -- What is among lists that are joined, among a list in another order, and any two of these.
-use Rattle.std.proofs.Common.{◌≡◌, ℕ, List, [], ◌∷◌, false, cond, refl, sym, ◌∙◌, ap, inl, inr}
-use Rattle.std.specs.Prelude.{Some, find}
-use Rattle.csi_lists.specs.Model.Members.{IsAmong, EachTwo}
-use Rattle.csi_lists.proofs.Members.{each_of}
-use Rattle.csi_types.specs.Model.Same.{same_text}
-use Rattle.csi_types.proofs.Equality.{same_text-tells}
+use Rattle.csi_orchestrator.proofs.Words.{◌≡◌, ℕ, List, [], ◌∷◌, false, cond, refl, sym, ◌∙◌, ap, inl, inr, Some, find}
+use Rattle.csi_orchestrator.proofs.Words.{IsAmong, EachTwo, same_text}
+use Rattle.csi_orchestrator.proofs.Lemmas.{each_of, same_text-tells}
 
 -- ---- lists that are joined
 

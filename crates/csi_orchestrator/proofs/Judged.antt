@@ -1,27 +1,19 @@
 -- The tests of a row's entries and tries are passed exactly where it keeps the rules.
-use Rattle.std.proofs.Common.{◌≡◌, ◌≢◌, ◌≤◌, ℕ, zero, suc, length, map, Bool, true, false, not, List, [], ◌∷◌, refl, sym, ◌∙◌, ap, inl, inr, arith}
-use Rattle.std.specs.Prelude.{◌⊎◌, ◌==◌, Option, Some, None, find, option_map, ◌&&◌, ◌||◌, nat_le}
-use Rattle.std.specs.List.{AllByRecursion, list_all, list_any}
-use Rattle.std.proofs.lemmas.Bool.{and_from, and_parts, or_from, or_parts, eq-eqb, eqb-true, false≢true, le-leb, leb-true, not-true, not_from_false}
-use Rattle.std.proofs.lemmas.Option.{none-some, same_Some}
-use Rattle.csi_lists.specs.Model.Members.{EachTwo}
-use Rattle.csi_lists.proofs.Searches.{find-of_map}
-use Rattle.csi_types.specs.declared.capability.Capability.{Capability}
-use Rattle.csi_types.specs.Model.Same.{same_text, has_capability}
-use Rattle.csi_types.specs.Model.Sharing.{is_single_node, is_single_writer, writes, are_two_writers, allows_one_target}
-use Rattle.csi_orchestrator.specs.declared.row.Goal.{Goal}
-use Rattle.csi_orchestrator.specs.declared.row.Goal.TheVariants.{Create, Use, Stop, Delete}
-use Rattle.csi_orchestrator.specs.declared.row.TargetEntry.{TargetEntry}
-use Rattle.csi_orchestrator.specs.declared.row.NodeEntry.{NodeEntry}
+use Rattle.csi_orchestrator.proofs.Words.{◌≡◌, ◌≢◌, ◌≤◌, ℕ, zero, suc, length, map, Bool, true, false, not, List, []}
+use Rattle.csi_orchestrator.proofs.Words.{◌∷◌, refl, sym, ◌∙◌, ap, inl, inr, arith, ◌⊎◌, ◌==◌, Option, Some, None, find}
+use Rattle.csi_orchestrator.proofs.Words.{option_map, ◌&&◌, ◌||◌, nat_le, AllByRecursion, list_all, list_any, EachTwo}
+use Rattle.csi_orchestrator.proofs.Words.{Capability, same_text, has_capability, is_single_node, is_single_writer}
+use Rattle.csi_orchestrator.proofs.Words.{writes, are_two_writers, allows_one_target, Goal, Stop}
+use Rattle.csi_orchestrator.proofs.Words.{TargetEntry, NodeEntry, Known, Yes, No, Maybe, NodeEntryShown, is_yes, is_no}
+use Rattle.csi_orchestrator.proofs.Words.{IsEntryWithin, AreTargetsApart, node_entry_shown, HasTries, IsUntried}
+use Rattle.csi_orchestrator.proofs.Words.{IsInUse, IsLeft, IsAtRest, IsAllowed, CanBeBeside, is_published, is_settled}
+use Rattle.csi_orchestrator.proofs.Words.{is_resting, is_other_target, are_targets_apart, is_entry_fit, are_beside}
+use Rattle.csi_orchestrator.proofs.Words.{are_entries_fit, has_tries, is_untargeted, is_tried}
+use Rattle.csi_orchestrator.proofs.Lemmas.{and_from, and_parts, or_from, or_parts, eq-eqb, eqb-true, false≢true, le-leb}
+use Rattle.csi_orchestrator.proofs.Lemmas.{leb-true, not-true, not_from_false, none-some, same_Some, find-of_map}
 use Rattle.csi_orchestrator.specs.declared.request.Arguments.{Arguments}
-use Rattle.csi_orchestrator.specs.declared.thing.Known.{Known}
-use Rattle.csi_orchestrator.specs.declared.thing.Known.TheVariants.{Yes, No, Maybe}
-use Rattle.csi_orchestrator.specs.Model.Shown.{NodeEntryShown}
-use Rattle.csi_orchestrator.specs.Model.Thing.{is_yes, is_no}
-use Rattle.csi_orchestrator.specs.Public.Bounds.{IsEntryWithin}
-use Rattle.csi_orchestrator.specs.Public.Shown.{AreTargetsApart, AreNodesApart, node_entry_shown}
-use Rattle.csi_orchestrator.specs.Public.Steady.{HasTries, IsUntried, IsInUse, IsLeft, IsAtRest, IsAllowed, CanBeBeside}
-use Rattle.csi_orchestrator.specs.Private.Judging.{is_published, is_settled, is_left, is_resting, is_other_target, are_targets_apart, is_entry_fit, are_beside, are_entries_fit, has_tries, is_untargeted, is_tried}
+use Rattle.csi_orchestrator.specs.Public.Shown.{AreNodesApart}
+use Rattle.csi_orchestrator.specs.Private.Judging.{is_left}
 use Rattle.csi_orchestrator.proofs.KnownTests.{yes_is_yes, no_is_no}
 
 -- ---- tests
@@ -223,10 +215,8 @@ writers-flip : (a b c d : Bool) → (a && b && (c || d)) ≡ false → (b && a &
 writers-flip true true true true e = absurd (false≢true (sym e))
 writers-flip true true true false e = absurd (false≢true (sym e))
 writers-flip true true false true e = absurd (false≢true (sym e))
-writers-flip true true false false e = refl
 writers-flip false true c d e = refl
-writers-flip true false c d e = refl
-writers-flip false false c d e = refl
+writers-flip a b c d e = refl
 
 -- nor does whether they can be beside one another
 pub beside-flip : (a b : NodeEntryShown) → CanBeBeside a b → CanBeBeside b a
@@ -303,26 +293,18 @@ from-entries nodes arguments (entry ∷ later) fit =
 pub tries-from : (goal : Option Goal) (tries : ℕ) → has_tries goal tries ≡ true → HasTries goal tries
 tries-from None tries h = eqb-true tries 0 h
 tries-from (Some (Stop node target)) tries h = leb-true tries 3 h
-tries-from (Some Create) tries h = let parts = and_parts (nat_le 1 tries) (nat_le tries 3) h in (leb-true 1 tries parts.0, leb-true tries 3 parts.1)
-tries-from (Some (Use usage)) tries h = let parts = and_parts (nat_le 1 tries) (nat_le tries 3) h in (leb-true 1 tries parts.0, leb-true tries 3 parts.1)
-tries-from (Some Delete) tries h = let parts = and_parts (nat_le 1 tries) (nat_le tries 3) h in (leb-true 1 tries parts.0, leb-true tries 3 parts.1)
+tries-from goal tries h = let parts = and_parts (nat_le 1 tries) (nat_le tries 3) h in (leb-true 1 tries parts.0, leb-true tries 3 parts.1)
 
 -- and back
 pub from-tries : (goal : Option Goal) (tries : ℕ) → HasTries goal tries → has_tries goal tries ≡ true
 from-tries None tries h = eq-eqb tries 0 h
 from-tries (Some (Stop node target)) tries h = le-leb tries 3 h
-from-tries (Some Create) tries h = and_from (nat_le 1 tries) (nat_le tries 3) (le-leb 1 tries h.0) (le-leb tries 3 h.1)
-from-tries (Some (Use usage)) tries h = and_from (nat_le 1 tries) (nat_le tries 3) (le-leb 1 tries h.0) (le-leb tries 3 h.1)
-from-tries (Some Delete) tries h = and_from (nat_le 1 tries) (nat_le tries 3) (le-leb 1 tries h.0) (le-leb tries 3 h.1)
+from-tries goal tries h = and_from (nat_le 1 tries) (nat_le tries 3) (le-leb 1 tries h.0) (le-leb tries 3 h.1)
 
 -- ---- a stop that wasn't tried
 
 -- by the tests
 pub tried-from : (goal : Option Goal) (tries : ℕ) (entries : List NodeEntry) → is_tried goal tries entries ≡ true → tries ≡ 0 → IsUntried goal (map node_entry_shown entries)
-tried-from None tries entries h none = tt
-tried-from (Some Create) tries entries h none = tt
-tried-from (Some (Use usage)) tries entries h none = tt
-tried-from (Some Delete) tries entries h none = tt
 tried-from (Some (Stop node target)) tries entries h none = λ entry found.
     by (find (λ (e : NodeEntry). same_text e.node node) entries) (untargeted (either-from (nat_le 1 tries) (is_untargeted (find (λ (e : NodeEntry). same_text e.node node) entries)) h)) entry
     (sym (find-of_map (λ (e : NodeEntryShown). same_text e.node node) node_entry_shown entries) ∙ found)
@@ -334,13 +316,10 @@ tried-from (Some (Stop node target)) tries entries h none = λ entry found.
     by : (o : Option NodeEntry) → is_untargeted o ≡ true → (entry : NodeEntryShown) → option_map node_entry_shown o ≡ Some entry → entry.target_entries ≡ []
     by None e entry f = absurd (none-some entry f)
     by (Some own) e entry f = sym (ap (λ (s : NodeEntryShown). s.target_entries) (same_Some (node_entry_shown own) entry f)) ∙ empty-from own.target_entries.items e
+tried-from goal tries entries h none = tt
 
 -- and back
 pub from-tried : (goal : Option Goal) (tries : ℕ) (entries : List NodeEntry) → (tries ≡ 0 → IsUntried goal (map node_entry_shown entries)) → is_tried goal tries entries ≡ true
-from-tried None tries entries untried = refl
-from-tried (Some Create) tries entries untried = refl
-from-tried (Some (Use usage)) tries entries untried = refl
-from-tried (Some Delete) tries entries untried = refl
 from-tried (Some (Stop node target)) zero entries untried =
     by (find (λ (e : NodeEntry). same_text e.node node) entries) (λ own e. untried refl (node_entry_shown own) (find-of_map (λ (s : NodeEntryShown). same_text s.node node) node_entry_shown entries ∙ ap (option_map node_entry_shown) e)) refl
   where
@@ -348,3 +327,4 @@ from-tried (Some (Stop node target)) zero entries untried =
     by None f e = refl
     by (Some own) f e = ap (λ (ts : List TargetEntry). length ts == 0) (f own e)
 from-tried (Some (Stop node target)) (suc tries) entries untried = first-passes (nat_le 1 (suc tries)) (is_untargeted (find (λ (e : NodeEntry). same_text e.node node) entries)) (le-leb 1 (suc tries) (omega arith))
+from-tried goal tries entries untried = refl

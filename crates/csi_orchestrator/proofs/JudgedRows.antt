@@ -1,38 +1,23 @@
 -- The tests of a row are passed exactly where it keeps the rules.
-use Rattle.std.proofs.Common.{◌≡◌, ◌≢◌, ℕ, length, map, Bool, true, false, not, List, [], ◌∷◌, refl, sym, ◌∙◌, ap, subst, inl, inr, arith}
-use Rattle.std.specs.Prelude.{◌⊎◌, Option, Some, None, find, is_some, is_none, option_and_then, ◌==◌, ◌&&◌, ◌||◌, nat_le}
-use Rattle.std.specs.List.{AllByRecursion}
-use Rattle.std.proofs.lemmas.Bool.{and_from, and_parts, false≢true, le-leb, leb-true}
-use Rattle.std.proofs.lemmas.List.{length-map}
-use Rattle.std.proofs.lemmas.Option.{none-some, same_Some}
-use Rattle.csi_lists.specs.Model.Members.{IsAmong, EachTwo}
-use Rattle.csi_lists.proofs.Members.{each_of, among-find}
-use Rattle.csi_lists.proofs.Searches.{find-passes}
-use Rattle.csi_lists.proofs.Tests.{any-none}
-use Rattle.csi_types.specs.declared.capability.Capability.{Capability}
-use Rattle.csi_types.specs.Model.Same.{same_text, same_flag, same_capability}
-use Rattle.csi_types.specs.Model.Sharing.{is_single_node, are_two_writers}
-use Rattle.csi_types.proofs.Equality.{same_text-tells, same_capability-tells}
-use Rattle.csi_orchestrator.specs.declared.row.Goal.{Goal}
-use Rattle.csi_orchestrator.specs.declared.row.Goal.TheVariants.{Create, Use, Stop, Delete}
-use Rattle.csi_orchestrator.specs.declared.row.OpenCall.{OpenCall}
-use Rattle.csi_orchestrator.specs.declared.row.TargetEntry.{TargetEntry}
-use Rattle.csi_orchestrator.specs.declared.row.NodeEntry.{NodeEntry}
-use Rattle.csi_orchestrator.specs.declared.row.Row.{Row}
-use Rattle.csi_orchestrator.specs.declared.request.Usage.{Usage}
-use Rattle.csi_orchestrator.specs.declared.thing.Known.{Known}
-use Rattle.csi_orchestrator.specs.declared.thing.Known.TheVariants.{Yes, No, Maybe}
-use Rattle.csi_orchestrator.specs.Model.Commands.{is_for_one_node, uses_as_second_writer}
-use Rattle.csi_orchestrator.specs.Model.Due.{call_for}
-use Rattle.csi_orchestrator.specs.Model.History.{Held}
-use Rattle.csi_orchestrator.specs.Model.Shown.{NodeEntryShown, RowShown, mark_in, held_at, goal_in}
-use Rattle.csi_orchestrator.specs.Model.Thing.{is_yes, is_no}
-use Rattle.csi_orchestrator.specs.Public.Restored.{IsRestorable}
-use Rattle.csi_orchestrator.specs.Public.RowRefusals.{is_so_elsewhere, has_elsewhere}
+use Rattle.csi_orchestrator.proofs.Words.{◌≡◌, ◌≢◌, ℕ, length, map, Bool, true, false, not, List, [], ◌∷◌, refl, sym}
+use Rattle.csi_orchestrator.proofs.Words.{◌∙◌, ap, subst, inl, inr, arith, ◌⊎◌, Option, Some, None, find, is_some}
+use Rattle.csi_orchestrator.proofs.Words.{is_none, option_and_then, ◌==◌, ◌&&◌, ◌||◌, nat_le, AllByRecursion, IsAmong}
+use Rattle.csi_orchestrator.proofs.Words.{EachTwo, Capability, same_text, same_flag, same_capability, is_single_node}
+use Rattle.csi_orchestrator.proofs.Words.{are_two_writers, Goal, Create, Use, Stop, Delete, OpenCall, TargetEntry}
+use Rattle.csi_orchestrator.proofs.Words.{NodeEntry, Row, Usage, Known, Yes, No, Maybe, is_for_one_node}
+use Rattle.csi_orchestrator.proofs.Words.{uses_as_second_writer, call_for, Held, NodeEntryShown, RowShown, mark_in}
+use Rattle.csi_orchestrator.proofs.Words.{held_at, goal_in, is_yes, is_no, IsRestorable, is_so_elsewhere, has_elsewhere}
+use Rattle.csi_orchestrator.proofs.Words.{AreTargetsApart, node_entry_shown, row_shown, IsStanding, HasOne, IsAtWork}
+use Rattle.csi_orchestrator.proofs.Words.{HasMarks, IsLeft, IsAtRest, AreMarked, HasLast, IsEmptyUnlessMade}
+use Rattle.csi_orchestrator.proofs.Words.{CanBeBeside, is_resting, is_at_target, stops_here, uses_here}
+use Rattle.csi_orchestrator.proofs.Words.{is_stop_on_the_way, is_use_on_the_way, fits_life, has_tries, is_tried}
+use Rattle.csi_orchestrator.proofs.Words.{are_entries_fit, is_restorable}
+use Rattle.csi_orchestrator.proofs.Lemmas.{and_from, and_parts, false≢true, le-leb, leb-true, length-map, none-some}
+use Rattle.csi_orchestrator.proofs.Lemmas.{same_Some, each_of, among-find, find-passes, any-none, same_text-tells}
+use Rattle.csi_orchestrator.proofs.Lemmas.{same_capability-tells}
 use Rattle.csi_orchestrator.specs.Public.RowRules.{HasEntry, IsUsable, MayBeWanted}
-use Rattle.csi_orchestrator.specs.Public.Shown.{AreTargetsApart, AreNodesApart, node_entry_shown, row_shown}
-use Rattle.csi_orchestrator.specs.Public.Steady.{IsStanding, HasOne, IsAtWork, HasMarks, IsLeft, IsAtRest, AreMarked, HasLast, IsEmptyUnlessMade, CanBeBeside}
-use Rattle.csi_orchestrator.specs.Private.Judging.{is_left, is_resting, is_at_target, stops_here, uses_here, is_stop_on_the_way, is_use_on_the_way, fits_life, has_tries, is_tried, are_entries_fit, is_restorable}
+use Rattle.csi_orchestrator.specs.Public.Shown.{AreNodesApart}
+use Rattle.csi_orchestrator.specs.Private.Judging.{is_left}
 use Rattle.csi_orchestrator.proofs.HasOnes.{one-found, one-is, one-with, one-weaker}
 use Rattle.csi_orchestrator.proofs.Judged.{all-shown, shown-all, resting-from, from-resting, left-from, from-left, either-from, first-passes, second-passes, empty-from, beside-flip, AreEntriesFit, entries-from, from-entries, tries-from, from-tries, tried-from, from-tried}
 use Rattle.csi_orchestrator.proofs.RowRules.{here}

@@ -1,35 +1,18 @@
 -- Why each entry of a row stays one that is allowed, and any two of them stay such that the volume may be held by both.
-use Rattle.std.proofs.Common.{◌≡◌, ◌≤◌, ℕ, List, [], ◌∷◌, ◌++◌, Bool, true, false, cond, not, length, map, refl, sym, ◌∙◌, ap, subst, inl, inr, arith}
-use Rattle.std.specs.Prelude.{Option, Some, None, is_some, ◌&&◌, ◌||◌}
-use Rattle.std.specs.List.{AllByRecursion}
-use Rattle.std.proofs.lemmas.List.{length-append}
-use Rattle.csi_lists.specs.Model.Members.{IsAmong, EachTwo}
-use Rattle.csi_lists.proofs.Each.{each-filter, each-map, each-weaker}
-use Rattle.csi_lists.proofs.Filters.{filter-no_longer}
-use Rattle.csi_lists.proofs.Members.{each_of, among-find}
-use Rattle.csi_lists.proofs.Searches.{find-passes}
-use Rattle.csi_lists.proofs.Pairs.{two-filter, two-map, two-more}
-use Rattle.csi_lists.proofs.Tests.{none-among}
-use Rattle.csi_types.specs.declared.capability.Capability.{Capability}
-use Rattle.csi_types.specs.Model.Same.{same_text, has_capability}
-use Rattle.csi_types.specs.Model.Sharing.{is_single_node, are_two_writers, allows_one_target}
-use Rattle.csi_types.proofs.Equality.{same_text-tells}
-use Rattle.csi_orchestrator.specs.declared.row.Goal.{Goal}
-use Rattle.csi_orchestrator.specs.declared.row.Goal.TheVariants.{Use, Stop}
-use Rattle.csi_orchestrator.specs.declared.row.TargetEntry.{TargetEntry}
-use Rattle.csi_orchestrator.specs.declared.request.Usage.{Usage}
-use Rattle.csi_orchestrator.specs.declared.thing.Known.{Known}
-use Rattle.csi_orchestrator.specs.Model.Thing.{is_no}
-use Rattle.csi_orchestrator.specs.Model.Commands.{is_for_one_node, uses_as_second_writer}
-use Rattle.csi_orchestrator.specs.Model.History.{Held}
-use Rattle.csi_orchestrator.specs.Model.Shown.{NodeEntryShown, RowShown, node_entry_of, target_entry_of, held_at}
-use Rattle.csi_orchestrator.specs.Private.Keyed.{change_by, put_by}
-use Rattle.csi_orchestrator.specs.Private.RowChanges.{Aspect, Existence, Attachment, Staging, Publication, node_marked, marked_at, at_goal, nodes_marked, is_target_kept, with_kept_targets, is_node_kept, tidied_entries, new_target_entry, with_target, entry_for, with_entry}
-use Rattle.csi_orchestrator.specs.Private.RowRefusals.{is_entry_otherwise}
-use Rattle.csi_orchestrator.specs.Public.Steady.{IsAtRest, IsAllowed, CanBeBeside}
-use Rattle.csi_orchestrator.specs.Public.RowDue.{others_in}
-use Rattle.csi_orchestrator.specs.Public.RowRefusals.{is_so_elsewhere, has_elsewhere}
-use Rattle.csi_orchestrator.specs.Public.Sound.{AreNodesApart}
+use Rattle.csi_orchestrator.proofs.Words.{◌≡◌, ◌≤◌, ℕ, List, [], ◌∷◌, ◌++◌, Bool, true, false, cond, not, length, map}
+use Rattle.csi_orchestrator.proofs.Words.{refl, sym, ◌∙◌, ap, subst, inl, inr, arith, Option, Some, None, is_some, ◌&&◌}
+use Rattle.csi_orchestrator.proofs.Words.{◌||◌, AllByRecursion, IsAmong, EachTwo, Capability, same_text, has_capability}
+use Rattle.csi_orchestrator.proofs.Words.{is_single_node, are_two_writers, allows_one_target, Goal, Use, Stop}
+use Rattle.csi_orchestrator.proofs.Words.{TargetEntry, Usage, Known, is_no, is_for_one_node, uses_as_second_writer}
+use Rattle.csi_orchestrator.proofs.Words.{Held, NodeEntryShown, RowShown, node_entry_of, target_entry_of, held_at}
+use Rattle.csi_orchestrator.proofs.Words.{change_by, put_by, Aspect, Existence, Publication}
+use Rattle.csi_orchestrator.proofs.Words.{node_marked, marked_at, at_goal, nodes_marked, is_target_kept}
+use Rattle.csi_orchestrator.proofs.Words.{with_kept_targets, is_node_kept, tidied_entries, new_target_entry}
+use Rattle.csi_orchestrator.proofs.Words.{with_target, entry_for, with_entry, is_entry_otherwise, IsAtRest, IsAllowed}
+use Rattle.csi_orchestrator.proofs.Words.{CanBeBeside, others_in, is_so_elsewhere, has_elsewhere, AreNodesApart}
+use Rattle.csi_orchestrator.proofs.Lemmas.{length-append, each-filter, each-map, each-weaker, filter-no_longer, each_of}
+use Rattle.csi_orchestrator.proofs.Lemmas.{among-find, find-passes, two-filter, two-map, two-more, none-among}
+use Rattle.csi_orchestrator.proofs.Lemmas.{same_text-tells}
 use Rattle.csi_orchestrator.proofs.EntriesBounded.{change-long}
 use Rattle.csi_orchestrator.proofs.EntryRules.{each-change, each-put}
 use Rattle.csi_orchestrator.proofs.JoinedLists.{own-entry}
@@ -70,12 +53,10 @@ record IsHeldAs (entry other : NodeEntryShown) : Type 0 where
 
 -- so it is of each aspect
 held-marked : (mark : Known) (aspect : Aspect) (target : List ℕ) (entry : NodeEntryShown) → IsHeldAs entry (node_marked mark aspect target entry)
-held-marked mark Existence target entry = record { same_capability = refl; same_flag = refl; no_longer = omega arith }
-held-marked mark Attachment target entry = record { same_capability = refl; same_flag = refl; no_longer = omega arith }
-held-marked mark Staging target entry = record { same_capability = refl; same_flag = refl; no_longer = omega arith }
 held-marked mark Publication target entry =
     let long = change-long (λ (t : TargetEntry). t.target) target (λ (t : TargetEntry). record t { published = mark }) entry.target_entries in
     record { same_capability = refl; same_flag = refl; no_longer = omega (arith, long) }
+held-marked mark aspect target entry = record { same_capability = refl; same_flag = refl; no_longer = omega arith }
 
 -- an entry that is held as an allowed one is allowed
 held-allowed : (capabilities : List Capability) (entry other : NodeEntryShown) → IsHeldAs entry other → IsAllowed capabilities entry → IsAllowed capabilities other

@@ -1,32 +1,17 @@
 -- Rows stay steady where the due call is sent, and where what was wanted is dropped.
-use Rattle.std.proofs.Common.{◌≡◌, ◌≢◌, ℕ, ◌+◌, List, [], ◌∷◌, Bool, true, false, cond, not, refl, sym, ◌∙◌, ap, subst, inl, inr, arith}
-use Rattle.std.specs.Prelude.{◌⊎◌, min, Option, Some, None, option_and_then, Result, Ok, Err}
-use Rattle.std.specs.List.{AllByRecursion}
-use Rattle.std.proofs.lemmas.Bool.{false≢true}
-use Rattle.std.proofs.lemmas.Option.{none-some}
-use Rattle.csi_types.specs.declared.call.Kind.{Kind}
+use Rattle.csi_orchestrator.proofs.Words.{◌≡◌, ◌≢◌, ℕ, ◌+◌, List, [], ◌∷◌, Bool, true, false, cond, not, refl, sym, ◌∙◌}
+use Rattle.csi_orchestrator.proofs.Words.{ap, subst, inl, inr, arith, ◌⊎◌, min, Option, Some, None, option_and_then}
+use Rattle.csi_orchestrator.proofs.Words.{Result, Ok, Err, AllByRecursion, Kind, Number, kind_of, OrchFault, Marks}
+use Rattle.csi_orchestrator.proofs.Words.{Goal, Create, Use, Stop, Usage, Step, Known, Yes, No, Maybe, is_yes}
+use Rattle.csi_orchestrator.proofs.Words.{is_no, Arguments, next_number, Due, NodeEntryShown, RowShown, node_entry_of}
+use Rattle.csi_orchestrator.proofs.Words.{publication_known, marks_at, use_due, stop_due, due_by, due_in, Aspect}
+use Rattle.csi_orchestrator.proofs.Words.{Attachment, Staging, Publication, aspect_of, exists_marked}
+use Rattle.csi_orchestrator.proofs.Words.{nodes_marked, tidied_entries, row_once_sent, dropped_row, new_row, MovedRow}
+use Rattle.csi_orchestrator.proofs.Words.{outgoing_by, row_moved, row_sends_due, HasTries, IsAtWork, HasMarks, IsLeftSo}
+use Rattle.csi_orchestrator.proofs.Words.{IsAtRest, AreMarked, HasLast, IsEmptyUnlessMade, IsSteadyRowIf, MayBeWanted}
+use Rattle.csi_orchestrator.proofs.Lemmas.{false≢true, none-some}
 use Rattle.csi_types.specs.declared.call.Kind.TheVariants as kinds
-use Rattle.csi_types.specs.declared.number.Number.{Number}
-use Rattle.csi_types.specs.Model.Call.{kind_of}
-use Rattle.csi_orchestrator.specs.declared.fault.OrchFault.{OrchFault}
-use Rattle.csi_orchestrator.specs.declared.marks.Marks.{Marks}
-use Rattle.csi_orchestrator.specs.declared.row.Goal.{Goal}
-use Rattle.csi_orchestrator.specs.declared.row.Goal.TheVariants.{Create, Use, Stop, Delete}
-use Rattle.csi_orchestrator.specs.declared.request.Usage.{Usage}
-use Rattle.csi_orchestrator.specs.declared.step.Step.{Step}
 use Rattle.csi_orchestrator.specs.declared.step.Step.TheVariants as steps
-use Rattle.csi_orchestrator.specs.declared.thing.Known.{Known}
-use Rattle.csi_orchestrator.specs.declared.thing.Known.TheVariants.{Yes, No, Maybe}
-use Rattle.csi_orchestrator.specs.Model.Thing.{is_yes, is_no}
-use Rattle.csi_orchestrator.specs.Model.History.{Arguments}
-use Rattle.csi_orchestrator.specs.Model.Commands.{next_number}
-use Rattle.csi_orchestrator.specs.Model.Due.{Due}
-use Rattle.csi_orchestrator.specs.Model.Shown.{NodeEntryShown, RowShown, node_entry_of, publication_known}
-use Rattle.csi_orchestrator.specs.Public.RowDue.{marks_at, use_due, stop_due, due_by, due_in}
-use Rattle.csi_orchestrator.specs.Private.RowChanges.{Aspect, Existence, Attachment, Staging, Publication, aspect_of, exists_marked, nodes_marked, tidied_entries, row_once_sent, dropped_row, new_row}
-use Rattle.csi_orchestrator.specs.Private.RowSteps.{MovedRow, outgoing_by, row_moved, row_sends_due}
-use Rattle.csi_orchestrator.specs.Public.Steady.{HasTries, IsAtWork, HasMarks, IsLeftSo, IsAtRest, AreMarked, HasLast, IsEmptyUnlessMade, IsSteadyRowIf}
-use Rattle.csi_orchestrator.specs.Public.Sound.{MayBeWanted}
 use Rattle.csi_orchestrator.proofs.DueCases.{attaching, staging, publishing, unpublishing, unstaging, detaching, IsDueFor, due-cases, ToMake, ToRemove, ToAttach, ToStage, ToPublish, ToUnpublish, ToUnstage, ToDetach}
 use Rattle.csi_orchestrator.proofs.KeptEntries.{AreFit, fit-marked, fit-tidied}
 use Rattle.csi_orchestrator.proofs.KeptInUse.{rest-attached}
@@ -64,9 +49,7 @@ pub record IsReady (N : Type 0) (row : RowShown) : Type 0 where
 tried-more : (goal : Option Goal) (tries : ℕ) (kind : Kind) → FitsGoal goal kind → HasTries goal (min 3 (1 + tries))
 tried-more None tries kind fits = absurd fits
 tried-more (Some (Stop node target)) tries kind fits = omega arith
-tried-more (Some Create) tries kind fits = (omega arith, omega arith)
-tried-more (Some (Use usage)) tries kind fits = (omega arith, omega arith)
-tried-more (Some Delete) tries kind fits = (omega arith, omega arith)
+tried-more goal tries kind fits = (omega arith, omega arith)
 
 -- which isn't none
 not-untried : (tries : ℕ) → min 3 (1 + tries) ≡ 0 → ⊥
@@ -77,22 +60,10 @@ pub none-marked : (mark : Known) (aspect : Aspect) (goal : Option Goal) (entries
 none-marked mark aspect goal entries none = ap (nodes_marked mark aspect goal) none ∙ by aspect goal
   where
     by : (aspect : Aspect) (goal : Option Goal) → nodes_marked mark aspect goal [] ≡ []
-    by Existence goal = refl
-    by Attachment None = refl
     by Attachment (Some Create) = refl
-    by Attachment (Some (Use usage)) = refl
-    by Attachment (Some (Stop node target)) = refl
-    by Attachment (Some Delete) = refl
-    by Staging None = refl
     by Staging (Some Create) = refl
-    by Staging (Some (Use usage)) = refl
-    by Staging (Some (Stop node target)) = refl
-    by Staging (Some Delete) = refl
-    by Publication None = refl
     by Publication (Some Create) = refl
-    by Publication (Some (Use usage)) = refl
-    by Publication (Some (Stop node target)) = refl
-    by Publication (Some Delete) = refl
+    by aspect goal = refl
 
 -- where the volume is used at none of its nodes, and attached nowhere, there are no entries
 none-used : (entries : List NodeEntryShown) → AllByRecursion (λ (entry : NodeEntryShown). entry.attached ≡ No) entries → AllByRecursion IsAtRest entries → entries ≡ []
@@ -146,9 +117,7 @@ use-met usage marks id e = by (is_yes marks.attached) refl (is_yes marks.staged)
   where
     by : (a : Bool) → is_yes marks.attached ≡ a → (s : Bool) → is_yes marks.staged ≡ s → (p : Bool) → is_yes marks.published ≡ p → cond (not a) (Some (attaching usage id)) (cond (not s) (Some (staging usage id)) (cond (not p) (Some (publishing usage id)) None)) ≡ None → IsMet marks
     by true a true s true p e = record { attached = a; staged = s; published = p }
-    by false a s f p g e = absurd (none-some _ (sym e))
-    by true a false s p g e = absurd (none-some _ (sym e))
-    by true a true s false p e = absurd (none-some _ (sym e))
+    by a is_a s is_s p is_p e = absurd (none-some _ (sym e))
 
 -- a stop is met where it isn't published at the target, and may be at others, or isn't at the node
 abbrev IsStopped : Marks → Type 0
@@ -162,9 +131,7 @@ stop-met node target marks id e = by (is_no marks.published) refl marks.others r
         → cond (not p) (Some (unpublishing node target id)) (cond o None (cond (not s) (Some (unstaging node id)) (cond (not a) (Some (detaching node id)) None))) ≡ None → IsStopped marks
     by true p true o s f a g e = (p, inl o)
     by true p false o true s true a e = (p, inr (s, a))
-    by false p o f s g a h e = absurd (none-some _ (sym e))
-    by true p false o false s a h e = absurd (none-some _ (sym e))
-    by true p false o true s false a e = absurd (none-some _ (sym e))
+    by p is_p o is_o s is_s a is_a e = absurd (none-some _ (sym e))
 
 -- each entry that is left is in use
 dropped-used : (N : Type 0) → (row : RowShown) → due_in row ≡ None → IsReady N row → AllByRecursion IsAtRest (tidied_entries row.node_entries)
@@ -197,11 +164,9 @@ dropped-used N row e ready = by row.goal e ready.stands ready.marked
             gone entry found (inr own) = left-gone AnyMark entry own (known-at (λ p. p.attached) is_no true row node entry found detached)
 
     by : (goal : Option Goal) → due_by row goal ≡ None → MayStand N goal row.id row.exists → AreMarked IsOnWay AnyMark goal row.node_entries → AllByRecursion IsAtRest (tidied_entries row.node_entries)
-    by None e may all = used-tidied row.node_entries all
-    by (Some Create) e may all = used-tidied row.node_entries all
-    by (Some Delete) e may all = used-tidied row.node_entries all
     by (Some (Use usage)) e may one = let own = use-has_id N usage row.id row.exists may in use-over usage e own.0 own.1 one
     by (Some (Stop node target)) e may one = let own = stop-has_id N node target row.id row.exists may in stop-over node target e own.0 own.1 one
+    by goal e may all = used-tidied row.node_entries all
 
 -- it keeps the rules then
 dropped-kept : (N : Type 0) → (row : RowShown) → due_in row ≡ None → IsReady N row → IsSteadyRowIf N (dropped_row row)

@@ -1,17 +1,9 @@
 -- What is kept of a volume of which nothing is wanted.
-use Rattle.std.proofs.Common.{◌≡◌, false, refl, sym, ap, subst, inl, inr}
-use Rattle.std.specs.Prelude.{◌≢◌, ◌⊎◌, Option, Some, None}
-use Rattle.std.specs.List.{AllByRecursion}
-use Rattle.csi_lists.proofs.Each.{each-weaker}
-use Rattle.csi_orchestrator.specs.declared.row.TargetEntry.{TargetEntry}
-use Rattle.csi_orchestrator.specs.declared.thing.Known.{Known}
-use Rattle.csi_orchestrator.specs.declared.thing.Known.TheVariants.{Yes, No, Maybe}
-use Rattle.csi_orchestrator.specs.Model.Thing.{is_no}
-use Rattle.csi_orchestrator.specs.Model.Shown.{RowShown, NodeEntryShown}
-use Rattle.csi_orchestrator.specs.Public.Sound.{IsNeeded, KeepsWhatIsNeeded}
-use Rattle.csi_orchestrator.specs.Public.Steady.{IsAtWork, HasMarks, IsLeft, IsAtRest, AreMarked, IsSteadyRowIf, IsSteadyRow}
-use Rattle.csi_orchestrator.specs.declared.row.Goal.{Goal}
-use Rattle.csi_orchestrator.specs.declared.row.Goal.TheVariants.{Create, Use, Stop, Delete}
+use Rattle.csi_orchestrator.proofs.Words.{◌≡◌, false, refl, sym, ap, subst, inl, inr, ◌≢◌, ◌⊎◌, Option, Some, None}
+use Rattle.csi_orchestrator.proofs.Words.{AllByRecursion, TargetEntry, Known, Yes, No, Maybe, is_no, RowShown}
+use Rattle.csi_orchestrator.proofs.Words.{NodeEntryShown, IsNeeded, KeepsWhatIsNeeded, IsAtWork, HasMarks, IsLeft}
+use Rattle.csi_orchestrator.proofs.Words.{IsAtRest, AreMarked, IsSteadyRowIf, IsSteadyRow, Goal, Use, Stop}
+use Rattle.csi_orchestrator.proofs.Lemmas.{each-weaker}
 use Rattle.csi_orchestrator.proofs.HasOnes.{one-each}
 use Rattle.csi_orchestrator.proofs.KnownTests.{yes_not_no}
 
@@ -54,9 +46,6 @@ pub steady-attached : (N : Type 0) (row : RowShown) → IsSteadyRowIf N row → 
 steady-attached N row steady = by row.goal steady.marked
   where
     by : (goal : Option Goal) → AreMarked IsAtWork (λ mark. mark ≢ No) goal row.node_entries → AllByRecursion (λ (e : NodeEntryShown). is_no e.attached ≡ false) row.node_entries
-    by None all = each-weaker IsAtRest (λ (e : NodeEntryShown). is_no e.attached ≡ false) row.node_entries rest-attached all
-    by (Some Create) all = each-weaker IsAtRest (λ (e : NodeEntryShown). is_no e.attached ≡ false) row.node_entries rest-attached all
-    by (Some Delete) all = each-weaker IsAtRest (λ (e : NodeEntryShown). is_no e.attached ≡ false) row.node_entries rest-attached all
     by (Some (Use usage)) one =
         one-each (λ (e : NodeEntryShown). e.node) usage.node (HasMarks IsAtWork usage.target) IsAtRest (λ (e : NodeEntryShown). is_no e.attached ≡ false) row.node_entries
         (λ entry found has. work-attached entry.attached entry.staged has.published has.marks) rest-attached one
@@ -67,3 +56,4 @@ steady-attached N row steady = by row.goal steady.marked
         either : (entry : NodeEntryShown) → HasMarks IsAtWork target entry ⊎ IsLeft entry → is_no entry.attached ≡ false
         either entry (inl has) = work-attached entry.attached entry.staged has.published has.marks
         either entry (inr left) = rest-attached entry (inr left)
+    by goal all = each-weaker IsAtRest (λ (e : NodeEntryShown). is_no e.attached ≡ false) row.node_entries rest-attached all

@@ -1,23 +1,11 @@
 -- Why a row keeps its rules where a node is lost.
-use Rattle.std.proofs.Common.{◌≡◌, ◌≢◌, ℕ, List, [], Bool, true, false, map, refl, sym, ◌∙◌, ap, subst, inl, inr, arith}
-use Rattle.std.specs.Prelude.{◌⊎◌, Option, Some, None, option_map}
-use Rattle.std.specs.List.{AllByRecursion}
-use Rattle.std.proofs.lemmas.Option.{none-some, same_Some}
-use Rattle.csi_lists.specs.Model.Members.{EachTwo}
-use Rattle.csi_lists.proofs.Each.{each-map}
-use Rattle.csi_lists.proofs.Pairs.{two-map, two-more}
-use Rattle.csi_types.specs.declared.capability.Capability.{Capability}
-use Rattle.csi_types.specs.Model.Same.{same_text}
-use Rattle.csi_types.proofs.Equality.{same_text-tells}
-use Rattle.csi_orchestrator.specs.declared.row.Goal.{Goal}
-use Rattle.csi_orchestrator.specs.declared.row.Goal.TheVariants.{Create, Use, Stop, Delete}
-use Rattle.csi_orchestrator.specs.declared.request.Usage.{Usage}
-use Rattle.csi_orchestrator.specs.declared.thing.Known.{Known}
-use Rattle.csi_orchestrator.specs.declared.thing.Known.TheVariants.{Yes, No, Maybe}
-use Rattle.csi_orchestrator.specs.Model.Shown.{NodeEntryShown, RowShown, node_entry_of}
-use Rattle.csi_orchestrator.specs.Private.Beginning.{is_use_at}
-use Rattle.csi_orchestrator.specs.Public.Beginning.{entry_at_loss, row_at_loss}
-use Rattle.csi_orchestrator.specs.Public.Steady.{IsUntried, IsStandingIf, HasOne, IsAtWork, HasMarks, IsLeft, IsAtRest, AreMarked, CameLast, HasLast, IsAllowed, CanBeBeside, IsSteadyRowIf}
+use Rattle.csi_orchestrator.proofs.Words.{◌≡◌, ◌≢◌, ℕ, List, [], Bool, true, false, map, refl, sym, ◌∙◌, ap, subst, inl}
+use Rattle.csi_orchestrator.proofs.Words.{inr, arith, ◌⊎◌, Option, Some, None, option_map, AllByRecursion, EachTwo}
+use Rattle.csi_orchestrator.proofs.Words.{Capability, same_text, Goal, Use, Stop, Usage, Known, Yes, No}
+use Rattle.csi_orchestrator.proofs.Words.{NodeEntryShown, RowShown, node_entry_of, is_use_at, entry_at_loss}
+use Rattle.csi_orchestrator.proofs.Words.{row_at_loss, IsUntried, IsStandingIf, HasOne, IsAtWork, HasMarks, IsLeft}
+use Rattle.csi_orchestrator.proofs.Words.{IsAtRest, AreMarked, CameLast, HasLast, IsAllowed, CanBeBeside, IsSteadyRowIf}
+use Rattle.csi_orchestrator.proofs.Lemmas.{none-some, same_Some, each-map, two-map, two-more, same_text-tells}
 use Rattle.csi_orchestrator.proofs.HasOnes.{one-map}
 use Rattle.csi_orchestrator.proofs.KeptInUse.{rest-attached, work-attached}
 use Rattle.csi_orchestrator.proofs.KnownTests.{not_no}
@@ -89,39 +77,29 @@ stays-lost node row there target one =
 -- whatever the goal is, unless it is a use of the node
 marked-lost : (node : List ℕ) (row : RowShown) (goal : Option Goal) → is_use_at node goal ≡ false → AreMarked IsAtWork (λ mark. mark ≢ No) goal row.node_entries
     → AreMarked IsAtWork (λ mark. mark ≢ No) goal (map (entry_at_loss node) row.node_entries)
-marked-lost node row None other all = each-map IsAtRest IsAtRest (entry_at_loss node) row.node_entries (rest-lost node) all
-marked-lost node row (Some Create) other all = each-map IsAtRest IsAtRest (entry_at_loss node) row.node_entries (rest-lost node) all
-marked-lost node row (Some Delete) other all = each-map IsAtRest IsAtRest (entry_at_loss node) row.node_entries (rest-lost node) all
 marked-lost node row (Some (Use usage)) other one = use-lost node row usage other one
 marked-lost node row (Some (Stop there target)) other one = stays-lost node row there target one
+marked-lost node row goal other all = each-map IsAtRest IsAtRest (entry_at_loss node) row.node_entries (rest-lost node) all
 
 -- the target of a use at another node is the last still
 last-lost : (node : List ℕ) (row : RowShown) (goal : Option Goal) → is_use_at node goal ≡ false → HasLast goal row.node_entries → HasLast goal (map (entry_at_loss node) row.node_entries)
-last-lost node row None other last = tt
-last-lost node row (Some Create) other last = tt
-last-lost node row (Some Delete) other last = tt
-last-lost node row (Some (Stop there target)) other last = tt
 last-lost node row (Some (Use usage)) other last = λ entry found.
     let own = found-lost node row usage.node entry found in
     let at = (same_text-tells own.0.node usage.node).1 (of-node row usage.node own.0 own.1) in
     subst (CameLast usage.target) (sym (own.2 ∙ another node usage.node own.0 other at)) (last own.0 own.1)
+last-lost node row goal other last = tt
 
 -- what wasn't tried is still of a node that was lost
 untried-lost : (node : List ℕ) (row : RowShown) (goal : Option Goal) → IsUntried goal row.node_entries → IsUntried goal (map (entry_at_loss node) row.node_entries)
-untried-lost node row None own = tt
-untried-lost node row (Some Create) own = tt
-untried-lost node row (Some Delete) own = tt
-untried-lost node row (Some (Use usage)) own = tt
 untried-lost node row (Some (Stop there target)) own = λ entry found.
     let was = found-lost node row there entry found in
     ap (λ (e : NodeEntryShown). e.target_entries) was.2 ∙ entry-by (λ (e : NodeEntryShown). e.target_entries ≡ []) node was.0 refl (own was.0 was.1)
+untried-lost node row goal own = tt
 
 -- a use of a volume that is there may be stopped
 stop-stands : (N : Type 0) (usage : Usage) (id : Option ℕ) (exists : Known) → IsStandingIf N (Some (Use usage)) id exists → IsStandingIf N (Some (Stop usage.node usage.target)) id exists
 stop-stands N usage (Some id) Yes own = tt
-stop-stands N usage (Some id) No own = absurd own
-stop-stands N usage (Some id) Maybe own = absurd own
-stop-stands N usage None exists own = absurd own
+stop-stands N usage id exists own = absurd own
 
 -- ---- the row
 

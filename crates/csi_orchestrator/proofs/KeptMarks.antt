@@ -1,16 +1,9 @@
 -- Why the marks at a goal's node stay as they may be: where the due call is sent, and where it succeeds.
-use Rattle.std.proofs.Common.{◌≡◌, ◌≢◌, ℕ, List, [], ◌∷◌, Bool, true, false, not, length, refl, sym, ◌∙◌, ap, inl, inr, arith}
-use Rattle.std.specs.Prelude.{◌&&◌, ◌||◌}
-use Rattle.std.specs.List.{list_any}
-use Rattle.std.proofs.lemmas.Bool.{false≢true, or_parts}
-use Rattle.csi_types.specs.Model.Same.{same_text}
-use Rattle.csi_orchestrator.specs.declared.row.TargetEntry.{TargetEntry}
-use Rattle.csi_orchestrator.specs.declared.thing.Known.{Known}
-use Rattle.csi_orchestrator.specs.declared.thing.Known.TheVariants.{Yes, No, Maybe}
-use Rattle.csi_orchestrator.specs.Model.Thing.{is_yes, is_no}
-use Rattle.csi_orchestrator.specs.Model.Shown.{NodeEntryShown, mark_in, publication_known}
-use Rattle.csi_orchestrator.specs.Private.RowChanges.{Attachment, Staging, Publication, node_marked}
-use Rattle.csi_orchestrator.specs.Public.Steady.{HasOne, IsAtWork, HasMarks}
+use Rattle.csi_orchestrator.proofs.Words.{◌≡◌, ◌≢◌, ℕ, List, [], ◌∷◌, Bool, true, false, not, length, refl, sym, ◌∙◌}
+use Rattle.csi_orchestrator.proofs.Words.{ap, inl, inr, arith, ◌&&◌, ◌||◌, list_any, same_text, TargetEntry, Known, Yes}
+use Rattle.csi_orchestrator.proofs.Words.{No, Maybe, is_yes, is_no, NodeEntryShown, mark_in, publication_known}
+use Rattle.csi_orchestrator.proofs.Words.{Attachment, Staging, Publication, node_marked, HasOne, IsAtWork, HasMarks}
+use Rattle.csi_orchestrator.proofs.Lemmas.{false≢true, or_parts}
 use Rattle.csi_orchestrator.proofs.EntriesBounded.{change-long}
 use Rattle.csi_orchestrator.proofs.HasOnes.{one-found, one-change}
 
@@ -51,10 +44,8 @@ stage-goes a s p e f w = absurd w
 -- a publication
 pub publish-goes : (a s : Known) → is_yes a ≡ true → is_yes s ≡ true → IsAtWork a s Maybe × IsOnWay a s Yes
 publish-goes Yes Yes e f = (tt, tt)
-publish-goes Yes Maybe e f = absurd (false≢true f)
-publish-goes Yes No e f = absurd (false≢true f)
-publish-goes Maybe s e f = absurd (false≢true e)
-publish-goes No s e f = absurd (false≢true e)
+publish-goes Yes s e f = absurd (false≢true f)
+publish-goes a s e f = absurd (false≢true e)
 
 -- its end
 pub unpublish-goes : (a s p : Known) → is_no p ≡ false → IsOnWay a s p → IsAtWork a s Maybe × IsOnWay a s No
@@ -79,10 +70,8 @@ unstage-goes a s p e f w = absurd w
 -- the end of an attachment
 pub detach-goes : (s p : Known) → is_no p ≡ true → is_no s ≡ true → IsAtWork Maybe s p × IsOnWay No s p
 detach-goes No No e f = (tt, tt)
-detach-goes No Yes e f = absurd (false≢true e)
-detach-goes No Maybe e f = absurd (false≢true e)
-detach-goes Yes p e f = absurd (false≢true f)
-detach-goes Maybe p e f = absurd (false≢true f)
+detach-goes No p e f = absurd (false≢true e)
+detach-goes s p e f = absurd (false≢true f)
 
 -- ---- targets
 

@@ -1,30 +1,17 @@
 -- Why the rows of an orchestrator keep their rules.
-use Rattle.std.proofs.Common.{◌≡◌, ℕ, List, Bool, true, false, cond, refl, sym, subst, inl, inr}
-use Rattle.std.specs.Prelude.{◌⊎◌, is_some, not, ◌&&◌, Option, Some, None, Result, Ok, Err}
-use Rattle.csi_types.specs.declared.call.Kind.{Kind}
-use Rattle.csi_types.specs.declared.reply.Reply.{Reply}
-use Rattle.csi_types.specs.Model.Reply.{is_ok_status}
+use Rattle.csi_orchestrator.proofs.Words.{◌≡◌, ℕ, List, Bool, true, false, cond, refl, sym, subst, inl, inr, ◌⊎◌}
+use Rattle.csi_orchestrator.proofs.Words.{is_some, not, ◌&&◌, Option, Some, None, Result, Ok, Err, Kind, Reply}
+use Rattle.csi_orchestrator.proofs.Words.{is_ok_status, OrchFault, Step, Input}
+use Rattle.csi_orchestrator.proofs.Words.{Comes, RowShown, OrchestratorParts, closed}
+use Rattle.csi_orchestrator.proofs.Words.{is_row_forgotten, remembered, row_at_loss, Goal, Create, Use, Stop, Delete}
+use Rattle.csi_orchestrator.proofs.Words.{Known, Yes, No, Maybe, IsStandingIf, IsStanding, IsSteadyRowIf, IsSteadyRow}
+use Rattle.csi_orchestrator.proofs.Words.{AreSteadyRowsIf, AreSteadyRows, MovedRows, moved_rows, step_heard, row_moves}
+use Rattle.csi_orchestrator.proofs.Words.{IsSoundRow, AreSoundRows}
+use Rattle.csi_orchestrator.proofs.Lemmas.{false≢true, each-map, each-filter, each-weaker, each_of}
 use Rattle.csi_types.specs.Public.Frame.{IsAllowed}
 use Rattle.csi_types.specs.Public.Reply.{is_create, has_id_by_rule}
-use Rattle.std.proofs.lemmas.Bool.{false≢true}
-use Rattle.csi_lists.proofs.Each.{each-map, each-filter, each-weaker}
-use Rattle.csi_lists.proofs.Members.{each_of}
-use Rattle.csi_orchestrator.specs.declared.fault.OrchFault.{OrchFault}
-use Rattle.csi_orchestrator.specs.declared.step.Step.{Step}
 use Rattle.csi_orchestrator.specs.declared.step.Step.TheVariants as steps
-use Rattle.csi_orchestrator.specs.Model.Moves.{Input, ToCreate, ToUse, ToStop, ToDelete, TimesOut, Comes, Restarts, Loses}
-use Rattle.csi_orchestrator.specs.Model.Shown.{RowShown, OrchestratorParts}
-use Rattle.csi_orchestrator.specs.Public.Shown.{closed}
-use Rattle.csi_orchestrator.specs.Public.Beginning.{is_row_forgotten, remembered, row_at_loss}
-use Rattle.csi_orchestrator.specs.declared.row.Goal.{Goal}
-use Rattle.csi_orchestrator.specs.declared.row.Goal.TheVariants.{Create, Use, Stop, Delete}
-use Rattle.csi_orchestrator.specs.declared.thing.Known.{Known}
-use Rattle.csi_orchestrator.specs.declared.thing.Known.TheVariants.{Yes, No, Maybe}
 use Rattle.csi_orchestrator.proofs.KeptLosses.{lost-kept}
-use Rattle.csi_orchestrator.specs.Public.Steady.{IsStandingIf, IsStanding, IsSteadyRowIf, IsSteadyRow, AreSteadyRowsIf, AreSteadyRows}
-use Rattle.csi_orchestrator.specs.Public.RowMoves.{MovedRows, moved_rows}
-use Rattle.csi_orchestrator.specs.Private.RowMoves.{step_heard, row_moves}
-use Rattle.csi_orchestrator.specs.Public.Sound.{IsSoundRow, AreSoundRows}
 use Rattle.csi_orchestrator.proofs.EntryRules.{each-put}
 use Rattle.csi_orchestrator.proofs.KeptSteps.{closed-kept, step-kept}
 use Rattle.csi_orchestrator.proofs.KeptGoals.{BringsId, KeptAfter, new-kept}
@@ -103,24 +90,12 @@ rows-stay-steady parts input moved_rows sound kept fit e = rows-stay-steady-if �
   where
     by : (input : Input) → IsFitInput input → IsFitInputIf ⊥ input
     by (Comes frame) fit = inl fit
-    by (ToCreate name arguments) fit = tt
-    by (ToUse name usage) fit = tt
-    by (ToStop name node target) fit = tt
-    by (ToDelete name) fit = tt
-    by (TimesOut name) fit = tt
-    by (Restarts nodes) fit = tt
-    by (Loses node) fit = tt
+    by input fit = tt
 
 -- with any frames
 pub any-fit : (input : Input) → IsFitInputIf (Unit {0}) input
 any-fit (Comes frame) = inr tt
-any-fit (ToCreate name arguments) = tt
-any-fit (ToUse name usage) = tt
-any-fit (ToStop name node target) = tt
-any-fit (ToDelete name) = tt
-any-fit (TimesOut name) = tt
-any-fit (Restarts nodes) = tt
-any-fit (Loses node) = tt
+any-fit input = tt
 
 -- a row that keeps the rules with the frames that there are keeps those with any
 pub steady-any : (row : RowShown) → IsSteadyRow row → IsSteadyRowIf (Unit {0}) row
@@ -140,26 +115,13 @@ steady-any row kept =
     by : (goal : Option Goal) (id : Option ℕ) (exists : Known) → IsStanding goal id exists → IsStandingIf (Unit {0}) goal id exists
     by None None Yes own = tt
     by None None Maybe own = tt
-    by None None No own = absurd own
     by None (Some id) Yes own = tt
     by None (Some id) No own = tt
-    by None (Some id) Maybe own = absurd own
     by (Some Create) None Maybe own = tt
-    by (Some Create) None Yes own = absurd own
-    by (Some Create) None No own = absurd own
-    by (Some Create) (Some id) exists own = absurd own
     by (Some (Use usage)) (Some id) Yes own = tt
-    by (Some (Use usage)) (Some id) No own = absurd own
-    by (Some (Use usage)) (Some id) Maybe own = absurd own
-    by (Some (Use usage)) None exists own = absurd own
     by (Some (Stop node target)) (Some id) Yes own = tt
-    by (Some (Stop node target)) (Some id) No own = absurd own
-    by (Some (Stop node target)) (Some id) Maybe own = absurd own
-    by (Some (Stop node target)) None exists own = absurd own
     by (Some Delete) (Some id) Maybe own = tt
-    by (Some Delete) (Some id) Yes own = absurd own
-    by (Some Delete) (Some id) No own = absurd own
-    by (Some Delete) None exists own = absurd own
+    by goal id exists own = absurd own
 
 -- so it is of all
 pub all-steady-any : (rows : List RowShown) → AreSteadyRows rows → AreSteadyRowsIf (Unit {0}) rows

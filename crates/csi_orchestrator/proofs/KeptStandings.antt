@@ -1,22 +1,10 @@
 -- Why a row's goal, its id, and whether its volume is there stay as they go together.
-use Rattle.std.proofs.Common.{◌≡◌, ℕ, List, refl, sym, ◌∙◌, ap, subst, inl, inr}
-use Rattle.std.specs.Prelude.{◌⊎◌, Option, Some, None}
-use Rattle.std.specs.Option.{option_or}
-use Rattle.std.proofs.lemmas.Bool.{false≢true}
-use Rattle.std.proofs.lemmas.Option.{none-some}
+use Rattle.csi_orchestrator.proofs.Words.{◌≡◌, ℕ, List, refl, sym, ◌∙◌, ap, subst, inl, inr, ◌⊎◌, Option, Some, None}
+use Rattle.csi_orchestrator.proofs.Words.{option_or, kind_of, Goal, Create, Use, Stop, Delete, Usage, Known, Yes, No}
+use Rattle.csi_orchestrator.proofs.Words.{Maybe, is_yes, Due, RowShown, aspect_of, exists_marked, known_by_success_of}
+use Rattle.csi_orchestrator.proofs.Words.{id_told, stopped_goal, IsStandingIf, due_by, due_in}
+use Rattle.csi_orchestrator.proofs.Lemmas.{false≢true, none-some}
 use Rattle.csi_types.specs.declared.call.Kind.TheVariants as kinds
-use Rattle.csi_types.specs.Model.Call.{kind_of}
-use Rattle.csi_orchestrator.specs.declared.row.Goal.{Goal}
-use Rattle.csi_orchestrator.specs.declared.row.Goal.TheVariants.{Create, Use, Stop, Delete}
-use Rattle.csi_orchestrator.specs.declared.request.Usage.{Usage}
-use Rattle.csi_orchestrator.specs.declared.thing.Known.{Known}
-use Rattle.csi_orchestrator.specs.declared.thing.Known.TheVariants.{Yes, No, Maybe}
-use Rattle.csi_orchestrator.specs.Model.Thing.{is_yes}
-use Rattle.csi_orchestrator.specs.Model.Due.{Due}
-use Rattle.csi_orchestrator.specs.Model.Shown.{RowShown}
-use Rattle.csi_orchestrator.specs.Private.RowChanges.{aspect_of, exists_marked, known_by_success_of, id_told, stopped_goal}
-use Rattle.csi_orchestrator.specs.Public.Steady.{IsStandingIf}
-use Rattle.csi_orchestrator.specs.Public.RowDue.{due_by, due_in}
 use Rattle.csi_orchestrator.proofs.DueCases.{IsDueFor, ToMake, ToRemove, ToAttach, ToStage, ToPublish, ToUnpublish, ToUnstage, ToDetach}
 
 -- how they go together before the due call is sent
@@ -37,37 +25,28 @@ maybe-yes e = cc
 pub stands-may : (N : Type 0) → (goal : Option Goal) (id : Option ℕ) (exists : Known) → IsStandingIf N goal id exists → MayStand N goal id exists
 stands-may N None id exists own = own
 stands-may N (Some Create) None Maybe own = λ yes. absurd (maybe-yes yes)
-stands-may N (Some Create) None Yes own = absurd own
-stands-may N (Some Create) None No own = absurd own
-stands-may N (Some Create) (Some id) exists own = absurd own
 stands-may N (Some (Use usage)) id exists own = own
 stands-may N (Some (Stop node target)) id exists own = own
 stands-may N (Some Delete) (Some id) exists own = tt
-stands-may N (Some Delete) None exists own = absurd own
+stands-may N goal id exists own = absurd own
 
 -- the goal of a use is given up
 pub stopped-stands : (N : Type 0) → (goal : Goal) (id : Option ℕ) (exists : Known) → MayStand N (Some goal) id exists → MayStand N (Some (stopped_goal goal)) id exists
 stopped-stands N Create id exists may = may
 stopped-stands N (Use usage) (Some id) Yes may = tt
-stopped-stands N (Use usage) (Some id) No may = absurd may
-stopped-stands N (Use usage) (Some id) Maybe may = absurd may
-stopped-stands N (Use usage) None exists may = absurd may
+stopped-stands N (Use usage) id exists may = absurd may
 stopped-stands N (Stop node target) id exists may = may
 stopped-stands N Delete id exists may = may
 
 -- a goal at a node is of a volume that is there
 pub use-made : (N : Type 0) → (usage : Usage) (id : Option ℕ) (exists : Known) → IsStandingIf N (Some (Use usage)) id exists → exists ≡ Yes
 use-made N usage (Some id) Yes own = refl
-use-made N usage (Some id) No own = absurd own
-use-made N usage (Some id) Maybe own = absurd own
-use-made N usage None exists own = absurd own
+use-made N usage id exists own = absurd own
 
 -- so is a stop
 pub stop-made : (N : Type 0) → (node target : List ℕ) (id : Option ℕ) (exists : Known) → IsStandingIf N (Some (Stop node target)) id exists → exists ≡ Yes
 stop-made N node target (Some id) Yes own = refl
-stop-made N node target (Some id) No own = absurd own
-stop-made N node target (Some id) Maybe own = absurd own
-stop-made N node target None exists own = absurd own
+stop-made N node target id exists own = absurd own
 
 -- it has an id
 pub use-has_id : (N : Type 0) → (usage : Usage) (id : Option ℕ) (exists : Known) → IsStandingIf N (Some (Use usage)) id exists → (own : ℕ) × (id ≡ Some own)
@@ -142,14 +121,8 @@ dropped-stands N row e may = by row.goal row.id row.exists may e
     by (Some Create) None Maybe may e = tt
     by (Some Create) (Some id) exists may e = subst (IsStandingIf N None (Some id)) (sym may) tt
     by (Some (Use usage)) (Some id) Yes may e = tt
-    by (Some (Use usage)) (Some id) No may e = absurd may
-    by (Some (Use usage)) (Some id) Maybe may e = absurd may
-    by (Some (Use usage)) None exists may e = absurd may
     by (Some (Stop node target)) (Some id) Yes may e = tt
-    by (Some (Stop node target)) (Some id) No may e = absurd may
-    by (Some (Stop node target)) (Some id) Maybe may e = absurd may
-    by (Some (Stop node target)) None exists may e = absurd may
-    by (Some Delete) None exists may e = absurd may
     by (Some Delete) (Some id) No may e = tt
     by (Some Delete) (Some id) Yes may e = absurd (none-some _ (sym e))
     by (Some Delete) (Some id) Maybe may e = absurd (none-some _ (sym e))
+    by goal id exists may e = absurd may

@@ -1,41 +1,22 @@
 -- Why a row that takes a step keeps its rules.
-use Rattle.std.proofs.Common.{◌≡◌, ◌≢◌, ℕ, List, [], Bool, true, false, not, refl, sym, ◌∙◌, ap, subst, inl, inr}
-use Rattle.std.specs.Option.{option_or}
-use Rattle.std.specs.Prelude.{◌⊎◌, ◌&&◌, find, Option, Some, None, is_some, is_none, option_and_then, Result}
-use Rattle.std.specs.List.{list_any}
-use Rattle.std.proofs.lemmas.Bool.{false≢true, or_parts}
-use Rattle.std.proofs.lemmas.Option.{none-some}
-use Rattle.csi_lists.proofs.Options.{none-from_is_some}
-use Rattle.csi_types.specs.declared.call.Kind.{Kind}
+use Rattle.csi_orchestrator.proofs.Words.{◌≡◌, ◌≢◌, ℕ, List, [], Bool, true, false, not, refl, sym, ◌∙◌, ap, subst, inl}
+use Rattle.csi_orchestrator.proofs.Words.{inr, option_or, ◌⊎◌, ◌&&◌, find, Option, Some, None, is_some, is_none}
+use Rattle.csi_orchestrator.proofs.Words.{option_and_then, Result, list_any, Kind, Number, kind_of, Capability}
+use Rattle.csi_orchestrator.proofs.Words.{same_text, has_capability, allows_one_target, OrchFault, Goal, Create, Use}
+use Rattle.csi_orchestrator.proofs.Words.{Stop, Delete, Usage, Step, Known, Yes, No, Maybe, is_yes, is_no}
+use Rattle.csi_orchestrator.proofs.Words.{is_for_one_node, uses_as_second_writer, Due, NodeEntryShown, RowShown}
+use Rattle.csi_orchestrator.proofs.Words.{node_entry_of, mark_in, publication_known, kind_due, IsDueSuccess, closed}
+use Rattle.csi_orchestrator.proofs.Words.{others_in, marks_at, use_due, due_by, due_in, aspect_of, id_told}
+use Rattle.csi_orchestrator.proofs.Words.{exists_marked, nodes_marked, known_by_success_of, succeeded_row, wanted_row}
+use Rattle.csi_orchestrator.proofs.Words.{stopped_goal, is_entry_otherwise, use_refusal, is_left, stop_refusal}
+use Rattle.csi_orchestrator.proofs.Words.{step_refusal, late_refusal, MovedRow, row_rests, row_unless, is_step_met}
+use Rattle.csi_orchestrator.proofs.Words.{waits, is_given_up, timed_out, failed, row_before_call, row_step}
+use Rattle.csi_orchestrator.proofs.Words.{IsStandingIf, IsAtWork, HasMarks, IsLeftSo, IsAtRest, AreMarked, HasLast}
+use Rattle.csi_orchestrator.proofs.Words.{IsEmptyUnlessMade, IsSteadyRowIf, has_elsewhere, IsSoundRow}
+use Rattle.csi_orchestrator.proofs.Lemmas.{false≢true, or_parts, none-some, none-from_is_some}
 use Rattle.csi_types.specs.declared.call.Kind.TheVariants as kinds
-use Rattle.csi_types.specs.declared.number.Number.{Number}
-use Rattle.csi_types.specs.Model.Call.{kind_of}
-use Rattle.csi_types.specs.declared.capability.Capability.{Capability}
-use Rattle.csi_types.specs.Model.Same.{same_text, has_capability}
-use Rattle.csi_types.specs.Model.Sharing.{allows_one_target}
-use Rattle.csi_orchestrator.specs.declared.fault.OrchFault.{OrchFault}
 use Rattle.csi_orchestrator.specs.declared.fault.OrchFault.TheVariants as faults
-use Rattle.csi_orchestrator.specs.declared.row.Goal.{Goal}
-use Rattle.csi_orchestrator.specs.declared.row.Goal.TheVariants.{Create, Use, Stop, Delete}
-use Rattle.csi_orchestrator.specs.declared.request.Usage.{Usage}
-use Rattle.csi_orchestrator.specs.declared.step.Step.{Step}
 use Rattle.csi_orchestrator.specs.declared.step.Step.TheVariants as steps
-use Rattle.csi_orchestrator.specs.declared.thing.Known.{Known}
-use Rattle.csi_orchestrator.specs.declared.thing.Known.TheVariants.{Yes, No, Maybe}
-use Rattle.csi_orchestrator.specs.Model.Thing.{is_yes, is_no}
-use Rattle.csi_orchestrator.specs.Model.Commands.{is_for_one_node, uses_as_second_writer}
-use Rattle.csi_orchestrator.specs.Model.Due.{Due}
-use Rattle.csi_orchestrator.specs.Model.Shown.{NodeEntryShown, RowShown, node_entry_of, mark_in, publication_known}
-use Rattle.csi_orchestrator.specs.Private.Found.{kind_due}
-use Rattle.csi_orchestrator.specs.Private.Hearing.{IsDueSuccess}
-use Rattle.csi_orchestrator.specs.Public.Shown.{closed}
-use Rattle.csi_orchestrator.specs.Public.RowDue.{others_in, marks_at, use_due, due_by, due_in}
-use Rattle.csi_orchestrator.specs.Private.RowChanges.{aspect_of, id_told, exists_marked, nodes_marked, known_by_success_of, succeeded_row, wanted_row, stopped_goal}
-use Rattle.csi_orchestrator.specs.Private.RowRefusals.{is_entry_otherwise, use_refusal, is_left, stop_refusal, step_refusal, late_refusal}
-use Rattle.csi_orchestrator.specs.Private.RowSteps.{MovedRow, row_rests, row_unless, is_step_met, waits, is_given_up, timed_out, failed, row_before_call, row_step}
-use Rattle.csi_orchestrator.specs.Public.Steady.{IsStandingIf, IsAtWork, HasMarks, IsLeftSo, IsAtRest, AreMarked, HasLast, IsEmptyUnlessMade, IsSteadyRowIf}
-use Rattle.csi_orchestrator.specs.Public.RowRefusals.{has_elsewhere}
-use Rattle.csi_orchestrator.specs.Public.Sound.{IsSoundRow}
 use Rattle.csi_orchestrator.proofs.DueCases.{IsDueFor, due-cases, ToMake, ToRemove, ToAttach, ToStage, ToPublish, ToUnpublish, ToUnstage, ToDetach}
 use Rattle.csi_orchestrator.proofs.EntryRules.{by_if}
 use Rattle.csi_orchestrator.proofs.HasOnes.{one-weaker}
@@ -85,9 +66,7 @@ stopped-ready N row goal e kept =
 
     unused : (goal : Goal) → HasLast (Some (stopped_goal goal)) row.node_entries
     unused Create = tt
-    unused (Use usage) = tt
-    unused (Stop node target) = tt
-    unused Delete = tt
+    unused goal = tt
 
 -- its call timed out
 timed-out-ready : (N : Type 0) → (row : RowShown) (goal : Option Goal) → row.goal ≡ goal → IsSteadyRowIf N row → IsReady N (timed_out row goal)
@@ -101,20 +80,14 @@ failed-ready N row (Some Create) e kept =
   where
     given-up : (id : Option ℕ) (exists : Known) → IsStandingIf N (Some Create) id exists → IsStandingIf N None id exists
     given-up None Maybe own = tt
-    given-up None Yes own = absurd own
-    given-up None No own = absurd own
-    given-up (Some id) exists own = absurd own
+    given-up id exists own = absurd own
 failed-ready N row (Some (Use usage)) e kept = stopped-ready N row (Use usage) e kept
-failed-ready N row None e kept = kept-ready N row kept
-failed-ready N row (Some (Stop node target)) e kept = kept-ready N row kept
-failed-ready N row (Some Delete) e kept = kept-ready N row kept
+failed-ready N row goal e kept = kept-ready N row kept
 
 -- a volume of which the deletion is wanted isn't known to be there
 delete-unmade : (N : Type 0) → (id : Option ℕ) (exists : Known) → IsStandingIf N (Some Delete) id exists → exists ≢ Yes
 delete-unmade N (Some id) Maybe own is = cc
-delete-unmade N (Some id) Yes own is = absurd own
-delete-unmade N (Some id) No own is = absurd own
-delete-unmade N None exists own is = absurd own
+delete-unmade N id exists own is = absurd own
 
 -- where the due call succeeded, a volume that isn't known to be there has no entries
 done-empty : (N : Type 0) → (row : RowShown) (due : Due) → IsDueFor row due → IsSteadyRowIf N row

@@ -1,21 +1,12 @@
 -- Why no goal is at work at the entries that are kept once a goal is dropped.
-use Rattle.std.proofs.Common.{◌≡◌, ◌≢◌, ℕ, List, [], ◌∷◌, Bool, true, false, cond, not, length, map, filter, refl, sym, ◌∙◌, ap, subst, inl, inr, arith}
-use Rattle.std.specs.Prelude.{Some, find, ◌&&◌}
-use Rattle.std.specs.List.{AllByRecursion, list_any}
-use Rattle.std.proofs.lemmas.Bool.{false≢true, and_parts}
-use Rattle.csi_lists.proofs.Each.{each-map, each-weaker}
-use Rattle.csi_lists.proofs.Filters.{filter-each, filter-no_one}
-use Rattle.csi_lists.proofs.Members.{in_filter, among-empty}
-use Rattle.csi_lists.proofs.Tests.{any-then}
-use Rattle.csi_types.specs.Model.Same.{same_text}
-use Rattle.csi_orchestrator.specs.declared.row.TargetEntry.{TargetEntry}
-use Rattle.csi_orchestrator.specs.declared.thing.Known.{Known}
-use Rattle.csi_orchestrator.specs.declared.thing.Known.TheVariants.{Yes, No, Maybe}
-use Rattle.csi_orchestrator.specs.Model.Thing.{is_yes, is_no}
-use Rattle.csi_orchestrator.specs.Model.Shown.{NodeEntryShown, publication_known}
-use Rattle.csi_orchestrator.specs.Private.RowChanges.{is_target_kept, with_kept_targets, has_targets, is_node_kept, tidied_entries}
-use Rattle.csi_orchestrator.specs.Public.Steady.{HasOne, HasMarks, IsInUse, IsLeftSo, IsAtRest}
-use Rattle.csi_orchestrator.specs.Public.RowDue.{others_in}
+use Rattle.csi_orchestrator.proofs.Words.{◌≡◌, ◌≢◌, ℕ, List, [], ◌∷◌, Bool, true, false, cond, not, length, map, filter}
+use Rattle.csi_orchestrator.proofs.Words.{refl, sym, ◌∙◌, ap, subst, inl, inr, arith, Some, find, ◌&&◌, AllByRecursion}
+use Rattle.csi_orchestrator.proofs.Words.{list_any, same_text, TargetEntry, Known, Yes, No, Maybe, is_yes, is_no}
+use Rattle.csi_orchestrator.proofs.Words.{NodeEntryShown, publication_known, is_target_kept, with_kept_targets}
+use Rattle.csi_orchestrator.proofs.Words.{has_targets, is_node_kept, tidied_entries, HasOne, HasMarks, IsInUse}
+use Rattle.csi_orchestrator.proofs.Words.{IsLeftSo, IsAtRest, others_in}
+use Rattle.csi_orchestrator.proofs.Lemmas.{false≢true, and_parts, each-map, each-weaker, filter-each, filter-no_one}
+use Rattle.csi_orchestrator.proofs.Lemmas.{in_filter, among-empty, any-then}
 use Rattle.csi_orchestrator.proofs.HasOnes.{one-each}
 use Rattle.csi_orchestrator.proofs.KeptMarks.{IsOnWay, then-alone, known-there}
 use Rattle.csi_orchestrator.proofs.KnownTests.{yes_is_yes}

@@ -1,31 +1,17 @@
 -- Why the marks at a goal's node may be as they are: where a use or a stop begins, and once a mark is set by the due call.
-use Rattle.std.proofs.Common.{◌≡◌, ◌≢◌, ℕ, List, [], ◌∷◌, ◌++◌, Bool, true, false, cond, not, refl, sym, ◌∙◌, ap, subst, inl, inr}
-use Rattle.std.specs.Prelude.{◌⊎◌, ◌&&◌, Option, Some, None, is_some, find}
-use Rattle.std.specs.List.{AllByRecursion, list_any}
-use Rattle.std.proofs.lemmas.Bool.{false≢true, and_parts, or_parts, not-true}
-use Rattle.std.proofs.lemmas.Option.{none-some}
-use Rattle.csi_lists.proofs.Members.{each_of, among-find}
-use Rattle.csi_lists.proofs.Searches.{find-passes}
-use Rattle.csi_types.specs.declared.call.Kind.{Kind}
+use Rattle.csi_orchestrator.proofs.Words.{◌≡◌, ◌≢◌, ℕ, List, [], ◌∷◌, ◌++◌, Bool, true, false, cond, not, refl, sym}
+use Rattle.csi_orchestrator.proofs.Words.{◌∙◌, ap, subst, inl, inr, ◌⊎◌, ◌&&◌, Option, Some, None, is_some, find}
+use Rattle.csi_orchestrator.proofs.Words.{AllByRecursion, list_any, Kind, kind_of, same_text, Goal, Use, Stop}
+use Rattle.csi_orchestrator.proofs.Words.{TargetEntry, Usage, Known, Yes, No, Maybe, is_yes, is_no, Due}
+use Rattle.csi_orchestrator.proofs.Words.{NodeEntryShown, RowShown, node_entry_of, target_entry_of, mark_in}
+use Rattle.csi_orchestrator.proofs.Words.{publication_known, Aspect, Attachment, Staging, Publication, aspect_of}
+use Rattle.csi_orchestrator.proofs.Words.{node_marked, marked_at, at_goal, nodes_marked, known_by_success_of}
+use Rattle.csi_orchestrator.proofs.Words.{new_target_entry, with_target, held_as, entry_for, with_entry, HasOne}
+use Rattle.csi_orchestrator.proofs.Words.{IsAtWork, HasMarks, IsInUse, IsLeftSo, IsLeft, IsAtRest, AreMarked, others_in}
+use Rattle.csi_orchestrator.proofs.Words.{is_left, AreTargetsApart, AreNodesApart}
+use Rattle.csi_orchestrator.proofs.Lemmas.{false≢true, and_parts, or_parts, not-true, none-some, each_of, among-find}
+use Rattle.csi_orchestrator.proofs.Lemmas.{find-passes, same_text-tells}
 use Rattle.csi_types.specs.declared.call.Kind.TheVariants as kinds
-use Rattle.csi_types.specs.Model.Call.{kind_of}
-use Rattle.csi_types.specs.Model.Same.{same_text}
-use Rattle.csi_types.proofs.Equality.{same_text-tells}
-use Rattle.csi_orchestrator.specs.declared.row.Goal.{Goal}
-use Rattle.csi_orchestrator.specs.declared.row.Goal.TheVariants.{Create, Use, Stop, Delete}
-use Rattle.csi_orchestrator.specs.declared.row.TargetEntry.{TargetEntry}
-use Rattle.csi_orchestrator.specs.declared.request.Usage.{Usage}
-use Rattle.csi_orchestrator.specs.declared.thing.Known.{Known}
-use Rattle.csi_orchestrator.specs.declared.thing.Known.TheVariants.{Yes, No, Maybe}
-use Rattle.csi_orchestrator.specs.Model.Thing.{is_yes, is_no}
-use Rattle.csi_orchestrator.specs.Model.Due.{Due}
-use Rattle.csi_orchestrator.specs.Model.Shown.{NodeEntryShown, RowShown, node_entry_of, target_entry_of, mark_in, publication_known}
-use Rattle.csi_orchestrator.specs.Private.RowChanges.{Aspect, Attachment, Staging, Publication, aspect_of, node_marked, marked_at, at_goal, nodes_marked, known_by_success_of, new_target_entry, with_target, held_as, entry_for, with_entry}
-use Rattle.csi_orchestrator.specs.Public.Steady.{HasOne, IsAtWork, HasMarks, IsInUse, IsLeftSo, IsLeft, IsAtRest, AreMarked}
-use Rattle.csi_orchestrator.specs.Public.RowDue.{others_in}
-use Rattle.csi_orchestrator.specs.Private.RowRefusals.{is_left}
-use Rattle.csi_orchestrator.specs.Public.Shown.{AreTargetsApart}
-use Rattle.csi_orchestrator.specs.Public.Sound.{AreNodesApart}
 use Rattle.csi_orchestrator.proofs.EntriesBounded.{held-node}
 use Rattle.csi_orchestrator.proofs.DueCases.{IsDueFor, ToMake, ToRemove, ToAttach, ToStage, ToPublish, ToUnpublish, ToUnstage, ToDetach}
 use Rattle.csi_orchestrator.proofs.HasOnes.{one-change, one-of, one-last, one-put, one-weaker}
@@ -80,8 +66,7 @@ left-targeted target entry left =
   where
     on : (a : Known) → a ≢ No → IsOnWay a No No
     on Yes may = tt
-    on Maybe may = tt
-    on No may = tt
+    on mark may = tt
 
 -- an entry that may be attached is held as it was
 pub held-as_is : (usage : Usage) (entry : NodeEntryShown) → is_no entry.attached ≡ false → held_as usage entry ≡ entry
@@ -311,6 +296,4 @@ work-marked (Some (Stop node target)) entries one =
     either : (entry : NodeEntryShown) → HasMarks IsAtWork target entry ⊎ IsLeft entry → HasMarks IsOnWay target entry ⊎ IsLeftSo AnyMark entry
     either entry (inl has) = inl (work-on target entry has)
     either entry (inr left) = inr (record { attached = tt; staged = left.staged; targets = left.targets })
-work-marked None entries all = all
-work-marked (Some Create) entries all = all
-work-marked (Some Delete) entries all = all
+work-marked goal entries all = all

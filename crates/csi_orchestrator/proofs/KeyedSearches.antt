@@ -1,9 +1,7 @@
 -- Searches after an entry was changed or put in.
-use Rattle.std.proofs.Common.{◌≡◌, ℕ, List, [], ◌∷◌, Bool, true, false, cond, refl, sym, ◌∙◌, ap}
-use Rattle.std.specs.Prelude.{Option, Some, None, option_map, find}
-use Rattle.csi_types.specs.Model.Same.{same_text}
-use Rattle.csi_types.proofs.Equality.{same_text-tells}
-use Rattle.csi_orchestrator.specs.Private.Keyed.{change_by, put_by}
+use Rattle.csi_orchestrator.proofs.Words.{◌≡◌, ℕ, List, [], ◌∷◌, Bool, true, false, cond, refl, sym, ◌∙◌, ap, Option}
+use Rattle.csi_orchestrator.proofs.Words.{Some, None, option_map, find, same_text, change_by, put_by}
+use Rattle.csi_orchestrator.proofs.Lemmas.{same_text-tells}
 
 -- texts that are the same are compared alike
 same_text-follows : (a b other : List ℕ) → same_text a b ≡ true → same_text a other ≡ same_text b other

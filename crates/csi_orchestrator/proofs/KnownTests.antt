@@ -1,9 +1,7 @@
 -- What the tests tell of what is known of a thing.
-use Rattle.std.proofs.Common.{◌≡◌, ◌≢◌, true, false, sym, ◌∙◌, ap, refl}
-use Rattle.std.proofs.lemmas.Bool.{false≢true, false_from_ne_true}
-use Rattle.csi_orchestrator.specs.declared.thing.Known.{Known}
-use Rattle.csi_orchestrator.specs.declared.thing.Known.TheVariants.{Yes, No, Maybe}
-use Rattle.csi_orchestrator.specs.Model.Thing.{is_yes, is_no}
+use Rattle.csi_orchestrator.proofs.Words.{◌≡◌, ◌≢◌, true, false, sym, ◌∙◌, ap, refl, Known, Yes, No, Maybe, is_yes}
+use Rattle.csi_orchestrator.proofs.Words.{is_no}
+use Rattle.csi_orchestrator.proofs.Lemmas.{false≢true, false_from_ne_true}
 
 -- what passes the test for Yes is Yes
 pub yes_is_yes : (k : Known) → is_yes k ≡ true → k ≡ Yes

@@ -1,27 +1,15 @@
 -- Why the target of a use that isn't published yet stays the last of its node.
-use Rattle.std.proofs.Common.{◌≡◌, ℕ, List, [], ◌∷◌, ◌++◌, Bool, true, false, cond, refl, sym, ◌∙◌, ap, subst, inl, inr}
-use Rattle.std.specs.Prelude.{Option, Some, None, is_some, find, option_map}
-use Rattle.std.specs.List.{AllByRecursion}
-use Rattle.std.proofs.lemmas.Bool.{false≢true}
-use Rattle.std.proofs.lemmas.Option.{none-some, same_Some}
-use Rattle.csi_lists.proofs.Members.{each_of, among-find}
-use Rattle.csi_lists.proofs.Searches.{find-passes}
-use Rattle.csi_types.specs.declared.call.Kind.{Kind}
+use Rattle.csi_orchestrator.proofs.Words.{◌≡◌, ℕ, List, [], ◌∷◌, ◌++◌, Bool, true, false, cond, refl, sym, ◌∙◌, ap}
+use Rattle.csi_orchestrator.proofs.Words.{subst, inl, inr, Option, Some, None, is_some, find, option_map}
+use Rattle.csi_orchestrator.proofs.Words.{AllByRecursion, Kind, kind_of, same_text, Use, TargetEntry, Usage, Known, Yes}
+use Rattle.csi_orchestrator.proofs.Words.{Due, NodeEntryShown, RowShown, node_entry_of, target_entry_of, mark_in}
+use Rattle.csi_orchestrator.proofs.Words.{publication_known, is_yes, change_by, Aspect, Attachment, Staging}
+use Rattle.csi_orchestrator.proofs.Words.{Publication, aspect_of, node_marked, marked_at, at_goal, nodes_marked}
+use Rattle.csi_orchestrator.proofs.Words.{new_target_entry, with_target, held_as, entry_for, with_entry, IsAtRest}
+use Rattle.csi_orchestrator.proofs.Words.{IsLast, CameLast, HasLast}
+use Rattle.csi_orchestrator.proofs.Lemmas.{false≢true, none-some, same_Some, each_of, among-find, find-passes}
+use Rattle.csi_orchestrator.proofs.Lemmas.{same_text-tells}
 use Rattle.csi_types.specs.declared.call.Kind.TheVariants as kinds
-use Rattle.csi_types.specs.Model.Call.{kind_of}
-use Rattle.csi_types.specs.Model.Same.{same_text}
-use Rattle.csi_types.proofs.Equality.{same_text-tells}
-use Rattle.csi_orchestrator.specs.declared.row.Goal.TheVariants.{Use}
-use Rattle.csi_orchestrator.specs.declared.row.TargetEntry.{TargetEntry}
-use Rattle.csi_orchestrator.specs.declared.request.Usage.{Usage}
-use Rattle.csi_orchestrator.specs.declared.thing.Known.{Known}
-use Rattle.csi_orchestrator.specs.declared.thing.Known.TheVariants.{Yes}
-use Rattle.csi_orchestrator.specs.Model.Due.{Due}
-use Rattle.csi_orchestrator.specs.Model.Shown.{NodeEntryShown, RowShown, node_entry_of, target_entry_of, mark_in, publication_known}
-use Rattle.csi_orchestrator.specs.Model.Thing.{is_yes}
-use Rattle.csi_orchestrator.specs.Private.Keyed.{change_by}
-use Rattle.csi_orchestrator.specs.Private.RowChanges.{Aspect, Existence, Attachment, Staging, Publication, aspect_of, node_marked, marked_at, at_goal, nodes_marked, new_target_entry, with_target, held_as, entry_for, with_entry}
-use Rattle.csi_orchestrator.specs.Public.Steady.{IsAtRest, IsLast, CameLast, HasLast}
 use Rattle.csi_orchestrator.proofs.EntriesBounded.{held-node}
 use Rattle.csi_orchestrator.proofs.DueCases.{IsDueFor, ToMake, ToRemove, ToAttach, ToStage, ToPublish, ToUnpublish, ToUnstage, ToDetach}
 use Rattle.csi_orchestrator.proofs.KeptUses.{known-at}
@@ -60,10 +48,8 @@ last-append key text x (y ∷ ys) e = last-behind key text y (ys ++ x ∷ []) (l
 -- the targets of an entry in which it is set
 targets-last : (mark : Known) (aspect : Aspect) (target : List ℕ) (entry : NodeEntryShown) → IsLast (λ (t : TargetEntry). t.target) target entry.target_entries
     → IsLast (λ (t : TargetEntry). t.target) target (node_marked mark aspect target entry).target_entries
-targets-last mark Existence target entry last = last
-targets-last mark Attachment target entry last = last
-targets-last mark Staging target entry last = last
 targets-last mark Publication target entry last = last-change (λ (t : TargetEntry). t.target) target target (λ (t : TargetEntry). record t { published = mark }) entry.target_entries (λ t. refl) last
+targets-last mark other target entry last = last
 
 -- in the entries of a use
 last-marked : (mark : Known) (aspect : Aspect) (usage : Usage) (entries : List NodeEntryShown)

@@ -1,3 +1,5 @@
+mod Words
+mod Lemmas
 pub mod BegunItems
 pub mod AddedItems
 pub mod Numbers

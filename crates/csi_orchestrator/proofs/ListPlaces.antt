@@ -1,8 +1,7 @@
 -- What stands at a place of a list, once another value was put at a place or at the end.
-use Rattle.std.proofs.Common.{◌≡◌, ◌<◌, ◌⊎◌, inl, inr, ℕ, zero, suc, List, [], ◌∷◌, ◌++◌, length, map, set, refl, ap, arith}
-use Rattle.std.specs.Prelude.{Some, slice_get}
-use Rattle.std.proofs.lemmas.Option.{none-some, same_Some}
-use Rattle.csi_lists.specs.Public.Places.{IsAt}
+use Rattle.csi_orchestrator.proofs.Words.{◌≡◌, ◌<◌, ◌⊎◌, inl, inr, ℕ, zero, suc, List, [], ◌∷◌, ◌++◌, length, map, set}
+use Rattle.csi_orchestrator.proofs.Words.{refl, ap, arith, Some, slice_get, IsAt}
+use Rattle.csi_orchestrator.proofs.Lemmas.{none-some, same_Some}
 
 -- what stands at a place is what is read there, and the place is within the list
 pub at-of_get : {X : Type 0} (xs : List X) (i : ℕ) (x : X) → slice_get xs i ≡ Some x → IsAt xs i x

@@ -1,17 +1,11 @@
 -- What is shown once names were forgotten and uses stopped, by what was shown before.
-use Rattle.std.proofs.Common.{◌≡◌, ℕ, List, [], ◌∷◌, map, Bool, true, false, cond, refl, sym, ◌∙◌, ap, subst, inl, inr}
-use Rattle.std.specs.Prelude.{Option, Some, None, filter_map, ◌||◌, ◌⊎◌}
-use Rattle.std.specs.List.{list_any, cons_option}
-use Rattle.std.specs.Option.{option_or}
-use Rattle.std.proofs.lemmas.Bool.{false≢true, or_parts}
-use Rattle.csi_types.specs.Model.Same.{same_text}
-use Rattle.csi_types.proofs.Equality.{same_text-tells}
-use Rattle.csi_orchestrator.specs.declared.thing.Thing.{Thing}
-use Rattle.csi_orchestrator.specs.Model.History.{Goal, Create, Use, Stop, Delete, Item, Forgotten, Noted, History, with_items}
-use Rattle.csi_orchestrator.specs.Model.Readings.{arguments_in_goal}
-use Rattle.csi_orchestrator.specs.Model.Moves.{stopping}
-use Rattle.csi_orchestrator.specs.Model.Agrees.{OrchestratorView, Agrees}
-use Rattle.csi_orchestrator.specs.Private.Following.{after_forgotten, after_noted}
+use Rattle.csi_orchestrator.proofs.Words.{◌≡◌, ℕ, List, [], ◌∷◌, map, Bool, true, false, cond, refl, sym, ◌∙◌, ap}
+use Rattle.csi_orchestrator.proofs.Words.{subst, inl, inr, Option, Some, None, filter_map, ◌||◌, ◌⊎◌, list_any}
+use Rattle.csi_orchestrator.proofs.Words.{cons_option, option_or, same_text, Thing, Item, Forgotten, Noted, History}
+use Rattle.csi_orchestrator.proofs.Words.{with_items, arguments_in_goal, stopping, OrchestratorView, Agrees}
+use Rattle.csi_orchestrator.proofs.Words.{after_forgotten, after_noted}
+use Rattle.csi_orchestrator.proofs.Lemmas.{false≢true, or_parts, same_text-tells}
+use Rattle.csi_orchestrator.specs.Model.History.{Goal, Use, Stop}
 use Rattle.csi_orchestrator.proofs.TextLists.{same_text-flip, text-same}
 use Rattle.csi_orchestrator.proofs.ViewsFollow.{forgotten-follows, noted-follows}
 
@@ -102,19 +96,13 @@ after_stopping node goals (name ∷ names) view = after_stopped node name (goals
 -- one agrees
 stopped-follows : (node name : List ℕ) (goal : Option Goal) (view : OrchestratorView) (history : History) (items : List Item) → Agrees view (with_items history items)
     → Agrees (after_stopped node name goal view) (with_items history (cons_option (stopping node name goal) items))
-stopped-follows node name None view history items agrees = agrees
-stopped-follows node name (Some (Create arguments)) view history items agrees = agrees
 stopped-follows node name (Some (Use usage)) view history items agrees = by (same_text usage.node node)
   where
-    stop : Option Goal
-    stop = Some (Stop usage.node usage.target)
-
     by : (b : Bool) → Agrees (cond b (after_noted name (cond b (Some (Stop usage.node usage.target)) (Some (Use usage))) view) view)
         (with_items history (cons_option (cond b (Some (Noted name (Some (Stop usage.node usage.target)))) None) items))
     by true = noted-follows view (with_items history items) name (Some (Stop usage.node usage.target)) agrees
     by false = agrees
-stopped-follows node name (Some (Stop there target)) view history items agrees = agrees
-stopped-follows node name (Some Delete) view history items agrees = agrees
+stopped-follows node name goal view history items agrees = agrees
 
 -- all agree
 pub stopping-follows : (node : List ℕ) (goals : List ℕ → Option Goal) (names : List (List ℕ)) (view : OrchestratorView) (history : History) → Agrees view history
@@ -136,18 +124,12 @@ pub record AreStopped (node : List ℕ) (wished : List ℕ → Option Goal) (nam
 -- the stop of a use has no arguments
 stop-plain : (node : List ℕ) (goal : Option Goal) → is_stopped node goal ≡ true → arguments_in_goal (stopped node goal) ≡ None
 stop-plain node (Some (Use usage)) e = ap (λ b. arguments_in_goal (cond b (Some (Stop usage.node usage.target)) (Some (Use usage)))) e
-stop-plain node None e = absurd (false≢true e)
-stop-plain node (Some (Create arguments)) e = absurd (false≢true e)
-stop-plain node (Some (Stop there target)) e = absurd (false≢true e)
-stop-plain node (Some Delete) e = absurd (false≢true e)
+stop-plain node goal e = absurd (false≢true e)
 
 -- what isn't stopped stays
 pub not-stopped : (node : List ℕ) (goal : Option Goal) → is_stopped node goal ≡ false → stopped node goal ≡ goal
 not-stopped node (Some (Use usage)) e = ap (λ b. cond b (Some (Stop usage.node usage.target)) (Some (Use usage))) e
-not-stopped node None e = refl
-not-stopped node (Some (Create arguments)) e = refl
-not-stopped node (Some (Stop there target)) e = refl
-not-stopped node (Some Delete) e = refl
+not-stopped node goal e = refl
 
 -- what is shown once one goal was looked at
 record IsOneStopped (node name : List ℕ) (goal : Option Goal) (a b : OrchestratorView) : Type 0 where

@@ -1,11 +1,7 @@
 -- The tests of a record's nodes are passed exactly where they keep the rules.
-use Rattle.std.proofs.Common.{◌≡◌, ◌≤◌, ℕ, length, true, false, not, List, [], ◌∷◌, refl, sym, ◌∙◌}
-use Rattle.std.specs.List.{list_any}
-use Rattle.std.proofs.lemmas.Bool.{and_from, and_parts, false≢true, not-true, not_from_false}
-use Rattle.csi_lists.specs.Model.Members.{EachTwo}
-use Rattle.csi_types.specs.Model.Same.{same_text}
-use Rattle.csi_orchestrator.specs.Public.Record.{AreNodesFit}
-use Rattle.csi_orchestrator.specs.Private.Judging.{are_nodes_apart}
+use Rattle.csi_orchestrator.proofs.Words.{◌≡◌, ◌≤◌, ℕ, length, true, false, not, List, [], ◌∷◌, refl, sym, ◌∙◌}
+use Rattle.csi_orchestrator.proofs.Words.{list_any, EachTwo, same_text, AreNodesFit, are_nodes_apart}
+use Rattle.csi_orchestrator.proofs.Lemmas.{and_from, and_parts, false≢true, not-true, not_from_false}
 use Rattle.csi_orchestrator.proofs.FirstRefused.{each-fails}
 use Rattle.csi_orchestrator.proofs.SplitLists.{any-of_none}
 

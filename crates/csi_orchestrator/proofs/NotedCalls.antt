@@ -1,20 +1,12 @@
 -- The calls that are noted: what stays so when the open ones are noted anew, and when all are closed.
-use Rattle.std.proofs.Common.{◌≡◌, ◌<◌, ◌≤◌, ◌+◌, ◌⊎◌, inl, inr, ℕ, zero, suc, Bool, true, false, cond, List, [], ◌∷◌, length, get_or, map, refl, sym, ◌∙◌, ap, subst, arith}
-use Rattle.std.specs.Prelude.{Option, Some, None, is_some, slice_get, nat_eq, Result, Ok, Err, IsOk, IfOk, OnOk}
-use Rattle.std.specs.Map.{values_of, lookup}
-use Rattle.std.proofs.lemmas.Bool.{false≢true}
-use Rattle.std.proofs.lemmas.Bool.Decides.{eqb_tells}
-use Rattle.std.proofs.lemmas.List.{length-map}
-use Rattle.std.proofs.lemmas.Option.{none-some, slice_get_cases, same_Some}
-use Rattle.indexmap.specs.IndexMap.{IndexMap, values, get, spare, index_map_len, Updates}
-use Rattle.csi_lists.specs.Public.Places.{IsAt}
-use Rattle.csi_lists.proofs.Places.{same-at}
-use Rattle.csi_orchestrator.specs.declared.row.OpenCall.{OpenCall}
-use Rattle.csi_orchestrator.specs.declared.row.Row.{Row}
-use Rattle.csi_orchestrator.specs.declared.catalog.Catalog.{Catalog}
-use Rattle.csi_orchestrator.specs.Public.Catalog.{rows_of, by_name, place_noted, HasRoomForCalls, IsNoted, IsIndexed}
-use Rattle.csi_orchestrator.specs.Private.Catalog.{IsNotedWith, IsClosedAt}
-use Rattle.csi_orchestrator.specs.Private.Shown.{without_call}
+use Rattle.csi_orchestrator.proofs.Words.{◌≡◌, ◌<◌, ◌≤◌, ◌+◌, ◌⊎◌, inl, inr, ℕ, zero, suc, Bool, true, false, cond}
+use Rattle.csi_orchestrator.proofs.Words.{List, [], ◌∷◌, length, get_or, map, refl, sym, ◌∙◌, ap, subst, arith, Option}
+use Rattle.csi_orchestrator.proofs.Words.{Some, None, is_some, slice_get, nat_eq, Result, Ok, Err, IsOk, IfOk, OnOk}
+use Rattle.csi_orchestrator.proofs.Words.{values_of, lookup, IndexMap, values, get, spare, index_map_len, Updates, IsAt}
+use Rattle.csi_orchestrator.proofs.Words.{OpenCall, Row, Catalog, rows_of, by_name, place_noted, HasRoomForCalls}
+use Rattle.csi_orchestrator.proofs.Words.{IsNoted, IsIndexed, IsNotedWith, IsClosedAt, without_call}
+use Rattle.csi_orchestrator.proofs.Lemmas.{false≢true, eqb_tells, length-map, none-some, slice_get_cases, same_Some}
+use Rattle.csi_orchestrator.proofs.Lemmas.{same-at}
 use Rattle.csi_orchestrator.proofs.RowsUnderNames.{rows-within}
 use Rattle.csi_orchestrator.proofs.ListPlaces.{at-of_get, get-of_at, at-within, all-mapped}
 

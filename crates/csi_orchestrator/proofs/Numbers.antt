@@ -1,20 +1,12 @@
 -- The numbers of a well-formed history: each call has a later one than all calls before it, and a success is of a call that
 -- was sent.
-use Rattle.std.proofs.Common.{◌≡◌, ◌⊎◌, ℕ, List, [], ◌∷◌, Bool, true, false, cond, refl, sym, ◌∙◌, ap, subst, inl, inr, arith}
-use Rattle.std.specs.Prelude.{Option, Some, None, filter_map}
-use Rattle.std.proofs.lemmas.Bool.{false_from_ne_true}
-use Rattle.std.proofs.lemmas.Bool.Decides.{nat_tests}
-use Rattle.csi_types.specs.declared.number.Number.{Number}
-use Rattle.csi_lists.specs.Model.Members.{IsAmong}
-use Rattle.std.proofs.lemmas.Option.{same_Some, none-some}
-use Rattle.csi_types.specs.Model.Number.{is_before, IsBefore}
-use Rattle.csi_types.specs.Model.Same.{same_number, same_text}
-use Rattle.csi_types.proofs.Equality.{same_number-tells}
+use Rattle.csi_orchestrator.proofs.Words.{◌≡◌, ◌⊎◌, ℕ, List, [], ◌∷◌, Bool, true, false, cond, refl, sym, ◌∙◌, ap}
+use Rattle.csi_orchestrator.proofs.Words.{subst, inl, inr, arith, Option, Some, None, filter_map, Number, IsAmong}
+use Rattle.csi_orchestrator.proofs.Words.{is_before, IsBefore, same_number, same_text, Issued, Item, Started}
+use Rattle.csi_orchestrator.proofs.Words.{Sent, Accepted, Closed, issued_in, has_success, id_in}
+use Rattle.csi_orchestrator.proofs.Words.{open_in, unless, last_in, AreWellFormed}
+use Rattle.csi_orchestrator.proofs.Lemmas.{false_from_ne_true, nat_tests, same_Some, none-some, same_number-tells}
 use Rattle.csi_types.proofs.Order.{before-from, before-trans}
-use Rattle.csi_orchestrator.specs.Model.Thing.{Issued}
-use Rattle.csi_orchestrator.specs.Model.History.{Item, Started, Lost, Forgotten, Sent, Accepted, Closed, Noted}
-use Rattle.csi_orchestrator.specs.Model.Readings.{issued_in, has_success, id_in, open_in, unless, last_in}
-use Rattle.csi_orchestrator.specs.Model.WellFormed.{AreWellFormed}
 
 -- the order of numbers is one as a test and as a relation, it passes on, and no number is before itself
 is_before-then : (a b : Number) → IsBefore a b → is_before a b ≡ true
@@ -55,11 +47,7 @@ sent-most began (Started session nodes ∷ older) call form among =
 sent-most began (Sent issued ∷ older) call form (inl e) = inl (ap (λ (c : Issued). c.number) e)
 sent-most began (Sent issued ∷ older) call form (inr there) =
     inr (most-before call.number (last_in began older) issued.number (sent-most began older call form.1 there) form.0.0.later)
-sent-most began (Accepted number status id ∷ older) call form among = sent-most began older call form.1 among
-sent-most began (Closed number ∷ older) call form among = sent-most began older call form.1 among
-sent-most began (Noted name goal ∷ older) call form among = sent-most began older call form.1 among
-sent-most began (Lost node ∷ older) call form among = sent-most began older call form.1 among
-sent-most began (Forgotten gone ∷ older) call form among = sent-most began older call form.1 among
+sent-most began (item ∷ older) call form among = sent-most began older call form.1 among
 
 -- a call that may be sent now has a later number than each sent before
 pub sent-before : (began : Number) (items : List Item) (number : Number) (call : Issued) → AreWellFormed began items → IsBefore (last_in began items) number → IsAmong call (issued_in items) → IsBefore call.number number
@@ -68,18 +56,13 @@ sent-before began items number call form next among = most-before call.number (l
 -- a number was given once
 pub one-call : (began : Number) (items : List Item) (a b : Issued) → AreWellFormed began items → IsAmong a (issued_in items) → IsAmong b (issued_in items) → a.number ≡ b.number → a ≡ b
 one-call began [] a b form at bt same = absurd at
-one-call began (Started session nodes ∷ older) a b form at bt same = one-call began older a b form.1 at bt same
 one-call began (Sent issued ∷ older) a b form (inl e) (inl f) same = e ∙ sym f
 one-call began (Sent issued ∷ older) a b form (inl e) (inr bt) same =
     absurd (not-before-itself b.number (subst (λ n. IsBefore b.number n) (sym (ap (λ (c : Issued). c.number) e) ∙ same) (sent-before began older issued.number b form.1 form.0.0.later bt)))
 one-call began (Sent issued ∷ older) a b form (inr at) (inl f) same =
     absurd (not-before-itself a.number (subst (λ n. IsBefore a.number n) (sym (ap (λ (c : Issued). c.number) f) ∙ sym same) (sent-before began older issued.number a form.1 form.0.0.later at)))
 one-call began (Sent issued ∷ older) a b form (inr at) (inr bt) same = one-call began older a b form.1 at bt same
-one-call began (Accepted number status id ∷ older) a b form at bt same = one-call began older a b form.1 at bt same
-one-call began (Closed number ∷ older) a b form at bt same = one-call began older a b form.1 at bt same
-one-call began (Noted name goal ∷ older) a b form at bt same = one-call began older a b form.1 at bt same
-one-call began (Lost node ∷ older) a b form at bt same = one-call began older a b form.1 at bt same
-one-call began (Forgotten gone ∷ older) a b form at bt same = one-call began older a b form.1 at bt same
+one-call began (item ∷ older) a b form at bt same = one-call began older a b form.1 at bt same
 
 -- the call, unless it is of that number
 pub unless-some : (number : Number) (o : Option Issued) (call : Issued) → unless number o ≡ Some call → (o ≡ Some call) × (same_number call.number number ≡ false)
@@ -102,9 +85,7 @@ open-sent name (Sent issued ∷ older) call e = by (same_text issued.name name) 
     by false s f rest = let there = rest f in (inr there.0, there.1)
 open-sent name (Accepted number status id ∷ older) call e = open-sent name older call (unless-some number (open_in name older) call e).0
 open-sent name (Closed number ∷ older) call e = open-sent name older call (unless-some number (open_in name older) call e).0
-open-sent name (Noted other goal ∷ older) call e = open-sent name older call e
-open-sent name (Lost node ∷ older) call e = open-sent name older call e
-open-sent name (Forgotten gone ∷ older) call e = open-sent name older call e
+open-sent name (item ∷ older) call e = open-sent name older call e
 
 -- a reply that was taken was to a call that was sent
 success-sent : (began : Number) (items : List Item) (number : Number) → AreWellFormed began items → ((call : Issued) → IsAmong call (issued_in items) → same_number call.number number ≡ false)
@@ -117,10 +98,7 @@ success-sent began (Accepted other status id ∷ older) number form none =
     let there = open-sent form.0.name older call form.0.is_open in
     let differs : same_number other number ≡ false = ap (λ n. same_number n number) (sym form.0.has_number) ∙ none call there.0 in
     rw differs (success-sent began older number form.1 none)
-success-sent began (Closed other ∷ older) number form none = success-sent began older number form.1 none
-success-sent began (Noted name goal ∷ older) number form none = success-sent began older number form.1 none
-success-sent began (Lost node ∷ older) number form none = success-sent began older number form.1 none
-success-sent began (Forgotten gone ∷ older) number form none = success-sent began older number form.1 none
+success-sent began (item ∷ older) number form none = success-sent began older number form.1 none
 
 -- of a number that is after all there is no success yet, and no id
 pub fresh-silent : (began : Number) (items : List Item) (number : Number) → AreWellFormed began items → IsBefore (last_in began items) number
@@ -146,20 +124,16 @@ open-silent began (Accepted number status id ∷ older) name call form e =
     flipped : (a b : Number) → same_number a b ≡ false → same_number b a ≡ false
     flipped a b h = grind (arith, nat_tests)
 open-silent began (Closed number ∷ older) name call form e = open-silent began older name call form.1 (unless-some number (open_in name older) call e).0
-open-silent began (Noted other goal ∷ older) name call form e = open-silent began older name call form.1 e
-open-silent began (Lost node ∷ older) name call form e = open-silent began older name call form.1 e
-open-silent began (Forgotten gone ∷ older) name call form e = open-silent began older name call form.1 e
+open-silent began (item ∷ older) name call form e = open-silent began older name call form.1 e
 
 -- of a session in which nothing was sent no call is open
 pub unused-closed : (began : Number) (items : List Item) (name : List ℕ) → AreWellFormed began items → (last_in began items).call ≡ 0 → open_in name items ≡ None
 unused-closed began [] name form unused = refl
 unused-closed began (Started session nodes ∷ older) name form unused = refl
-unused-closed began (Lost node ∷ older) name form unused = unused-closed began older name form.1 unused
-unused-closed began (Forgotten gone ∷ older) name form unused = unused-closed began older name form.1 unused
 unused-closed began (Sent issued ∷ older) name form unused = absurd (not-first (last_in began older) issued.number form.0.0.later (form.0.0).same_session unused)
   where
     not-first : (last number : Number) → IsBefore last number → last.session ≡ number.session → number.call ≡ 0 → ⊥
     not-first last number before same none = let t : is_before last number ≡ true = is_before-then last number before in grind (arith, nat_tests)
 unused-closed began (Accepted number status id ∷ older) name form unused = ap (unless number) (unused-closed began older name form.1 unused)
 unused-closed began (Closed number ∷ older) name form unused = ap (unless number) (unused-closed began older name form.1 unused)
-unused-closed began (Noted other goal ∷ older) name form unused = unused-closed began older name form.1 unused
+unused-closed began (item ∷ older) name form unused = unused-closed began older name form.1 unused

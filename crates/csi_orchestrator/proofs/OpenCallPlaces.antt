@@ -1,25 +1,11 @@
 -- Where the row of an open call stands: the place that is noted for the call's number, if the row there passes a test that only the row of
 -- such a call passes.
-use Rattle.std.proofs.Common.{◌≡◌, ℕ, List, get_or, Bool, true, false, refl, sym, ◌∙◌, ap, subst}
-use Rattle.std.specs.Prelude.{Option, Some, None, position, slice_get}
-use Rattle.std.proofs.lemmas.Bool.{false≢true, false_from_ne_true}
-use Rattle.std.proofs.lemmas.List.Quantifiers.{position-Some}
-use Rattle.std.proofs.lemmas.Option.{none-some, same_Some}
-use Rattle.csi_lists.specs.Public.Places.{IsAt}
-use Rattle.csi_lists.proofs.Places.{at-index, find-not_none, position-none}
-use Rattle.csi_lists.proofs.Searches.{find-no_place}
-use Rattle.csi_types.specs.declared.call.Kind.{Kind}
-use Rattle.csi_types.specs.declared.call.Party.{Party}
-use Rattle.csi_types.specs.declared.number.Number.{Number}
-use Rattle.csi_types.proofs.Equality.{same_number-tells}
-use Rattle.csi_orchestrator.specs.declared.row.OpenCall.{OpenCall}
-use Rattle.csi_orchestrator.specs.declared.row.Row.{Row}
-use Rattle.csi_orchestrator.specs.declared.catalog.Catalog.{Catalog}
-use Rattle.csi_orchestrator.specs.Public.Catalog.{rows_of, place_noted, IsIndexed}
-use Rattle.csi_orchestrator.specs.Public.Changed.{is_numbered}
-use Rattle.csi_orchestrator.specs.Private.RowMoves.{is_issued_as}
-use Rattle.csi_orchestrator.specs.Public.Shown.{row_shown}
-use Rattle.csi_orchestrator.specs.Model.Shown.{open_in_row}
+use Rattle.csi_orchestrator.proofs.Words.{◌≡◌, ℕ, List, get_or, Bool, true, false, refl, sym, ◌∙◌, ap, subst, Option}
+use Rattle.csi_orchestrator.proofs.Words.{Some, None, position, slice_get, IsAt, Kind, Party, Number, OpenCall, Row}
+use Rattle.csi_orchestrator.proofs.Words.{Catalog, rows_of, place_noted, IsIndexed, is_numbered, is_issued_as}
+use Rattle.csi_orchestrator.proofs.Words.{row_shown, open_in_row}
+use Rattle.csi_orchestrator.proofs.Lemmas.{false≢true, false_from_ne_true, position-Some, none-some, same_Some}
+use Rattle.csi_orchestrator.proofs.Lemmas.{at-index, find-not_none, position-none, find-no_place, same_number-tells}
 use Rattle.csi_orchestrator.proofs.ListPlaces.{at-of_get, get-of_at}
 use Rattle.csi_orchestrator.proofs.RepliedRows.{hears-it}
 

@@ -1,29 +1,15 @@
 -- What becomes of a row's open call: it stays open, is closed, or gives way to the next one, which has the next number.
-use Rattle.std.proofs.Common.{◌≡◌, ◌+◌, ◌^◌, ◌⊎◌, inl, inr, ℕ, List, Bool, true, false, cond, refl, sym, ◌∙◌, ap, subst}
-use Rattle.std.specs.Prelude.{Option, Some, None, option_map, nat_lt, slice_get, Result, Ok, Err}
-use Rattle.std.proofs.lemmas.Option.{none-some}
-use Rattle.csi_types.specs.declared.number.Number.{Number}
-use Rattle.csi_orchestrator.specs.declared.fault.OrchFault.{OrchFault}
-use Rattle.csi_orchestrator.specs.declared.sending.Outgoing.{Outgoing}
-use Rattle.csi_orchestrator.specs.declared.row.Goal.{Goal}
-use Rattle.csi_orchestrator.specs.declared.row.Goal.TheVariants.{Create}
-use Rattle.csi_orchestrator.specs.declared.row.OpenCall.{OpenCall}
-use Rattle.csi_orchestrator.specs.declared.row.Row.{Row}
-use Rattle.csi_orchestrator.specs.declared.step.Step.{Step}
+use Rattle.csi_orchestrator.proofs.Words.{◌≡◌, ◌+◌, ◌^◌, ◌⊎◌, inl, inr, ℕ, List, Bool, true, false, cond, refl, sym}
+use Rattle.csi_orchestrator.proofs.Words.{◌∙◌, ap, subst, Option, Some, None, option_map, nat_lt, slice_get, Result, Ok}
+use Rattle.csi_orchestrator.proofs.Words.{Err, Number, OrchFault, Outgoing, Goal, Create, OpenCall, Row, Step, Catalog}
+use Rattle.csi_orchestrator.proofs.Words.{rows_of, IsIndexed, AreUpTo, IsReady, IsNextFor, outgoing_call_number}
+use Rattle.csi_orchestrator.proofs.Words.{IsNumberedAfter, next_number, last_after, step_refusal, late_refusal}
+use Rattle.csi_orchestrator.proofs.Words.{MovedRow, outgoing_by, sent_or_dropped, row_moved, row_sends_due, row_rests}
+use Rattle.csi_orchestrator.proofs.Words.{row_unless, is_step_met, waits, is_given_up, timed_out, failed}
+use Rattle.csi_orchestrator.proofs.Words.{row_before_call, row_takes, row_step, Due, Arguments, new_row, wanted_row}
+use Rattle.csi_orchestrator.proofs.Words.{stopped_goal, RowShown, row_shown, closed, due_in}
+use Rattle.csi_orchestrator.proofs.Lemmas.{none-some}
 use Rattle.csi_orchestrator.specs.declared.step.Step.TheVariants as steps
-use Rattle.csi_orchestrator.specs.declared.catalog.Catalog.{Catalog}
-use Rattle.csi_orchestrator.specs.Public.Catalog.{rows_of, IsIndexed, AreUpTo}
-use Rattle.csi_orchestrator.specs.Private.Catalog.{IsReady, IsNextFor, outgoing_call_number, IsNumberedAfter}
-use Rattle.csi_orchestrator.specs.Model.Commands.{next_number}
-use Rattle.csi_orchestrator.specs.Private.RowMoves.{last_after}
-use Rattle.csi_orchestrator.specs.Private.RowRefusals.{step_refusal, late_refusal}
-use Rattle.csi_orchestrator.specs.Private.RowSteps.{MovedRow, outgoing_by, sent_or_dropped, row_moved, row_sends_due, row_rests, row_unless, is_step_met, waits, is_given_up, timed_out, failed, row_before_call, row_takes, row_step}
-use Rattle.csi_orchestrator.specs.Model.Due.{Due}
-use Rattle.csi_orchestrator.specs.Model.History.{Arguments}
-use Rattle.csi_orchestrator.specs.Private.RowChanges.{new_row, wanted_row, stopped_goal}
-use Rattle.csi_orchestrator.specs.Model.Shown.{RowShown}
-use Rattle.csi_orchestrator.specs.Public.Shown.{row_shown, closed}
-use Rattle.csi_orchestrator.specs.Public.RowDue.{due_in}
 use Rattle.csi_orchestrator.proofs.RowsUnderNames.{IsOpened, catalog_with, next-unnoted, ready-set}
 use Rattle.csi_orchestrator.proofs.EntryRules.{by_if}
 

@@ -1,23 +1,10 @@
 -- What is opened from a record keeps all that an orchestrator's type keeps.
-use Rattle.std.proofs.Common.{◌≡◌, ℕ, List, false, not, arith}
-use Rattle.std.specs.Prelude.{None}
-use Rattle.csi_lists.proofs.Each.{each-weaker, each-filter}
-use Rattle.csi_lists.proofs.Filters.{filter-no_longer}
-use Rattle.csi_lists.proofs.Members.{all_of, each_of}
-use Rattle.csi_lists.proofs.Pairs.{two-filter}
-use Rattle.csi_types.specs.Model.Same.{same_text}
-use Rattle.csi_orchestrator.specs.Model.Shown.{RowShown}
-use Rattle.csi_orchestrator.specs.Public.Beginning.{remembered, restart_refusal, is_row_forgotten}
-use Rattle.csi_orchestrator.specs.Public.Bounds.{AreWithin}
-use Rattle.csi_orchestrator.specs.Public.Laws.{opened_parts}
-use Rattle.csi_orchestrator.specs.Public.Record.{RecordParts}
-use Rattle.csi_orchestrator.specs.Public.Restored.{IsRestorable, AreRestorable}
-use Rattle.csi_orchestrator.specs.Public.Sound.{IsSoundRow, AreSoundParts}
-use Rattle.csi_orchestrator.specs.Public.Steady.{IsSteadyRow}
-use Rattle.csi_orchestrator.specs.Public.Steps.{Opens}
+use Rattle.csi_orchestrator.proofs.Words.{◌≡◌, ℕ, List, false, not, arith, None, same_text, RowShown, remembered}
+use Rattle.csi_orchestrator.proofs.Words.{restart_refusal, is_row_forgotten, AreWithin, opened_parts, RecordParts}
+use Rattle.csi_orchestrator.proofs.Words.{IsRestorable, AreRestorable, IsSoundRow, AreSoundParts, IsSteadyRow, Opens}
+use Rattle.csi_orchestrator.proofs.Lemmas.{each-weaker, each-filter, filter-no_longer, all_of, each_of, two-filter}
 use Rattle.csi_orchestrator.proofs.AllTold.{HasTold, next-told}
 use Rattle.csi_orchestrator.proofs.BoundsStay.{none-left-out, relisted}
-use Rattle.csi_orchestrator.proofs.ViewFollowed.{view-follows}
 
 -- the rows that are remembered keep the rules with the new nodes
 restarted-restorable : (session : ℕ) (old new : List (List ℕ)) (rows : List RowShown) → AreRestorable old rows → restart_refusal session old new rows ≡ None → AreRestorable new (remembered rows)
@@ -47,4 +34,4 @@ opened kept nodes rules ok =
     fit = restarted-restorable kept.session kept.nodes nodes kept.rows rules ok
 
     told : HasTold (opened_parts kept nodes)
-    told = next-told view-follows nodes kept.session (remembered kept.rows) fit.names fit.each
+    told = next-told nodes kept.session (remembered kept.rows) fit.names fit.each

@@ -1,17 +1,9 @@
 -- What the rows tell is what each call promises.
-use Rattle.std.proofs.Common.{◌≡◌, refl, sym, ◌∙◌, ap, subst}
-use Rattle.std.specs.Prelude.{Result, Ok, Err, IfOk, IfErr}
-use Rattle.csi_orchestrator.specs.declared.fault.OrchFault.{OrchFault}
-use Rattle.csi_orchestrator.specs.Model.History.{History, with_items}
-use Rattle.csi_orchestrator.specs.Model.WellFormed.{IsWellFormed}
-use Rattle.csi_orchestrator.specs.Model.Moves.{Input, Restarts, Loses, Answer, Moved, moves}
-use Rattle.csi_orchestrator.specs.Public.Moves.{moved_to}
-use Rattle.csi_orchestrator.specs.Model.Shown.{OrchestratorParts, Shows}
-use Rattle.csi_orchestrator.specs.Public.RowMoves.{MovedRows, IsRefusal}
-use Rattle.csi_orchestrator.specs.Private.RowMoves.{row_moves, IsMoveOf, RowsAnswer}
-use Rattle.csi_orchestrator.specs.Public.Steady.{AreSteadyRowsIf}
-use Rattle.csi_orchestrator.specs.Public.Sound.{AreSoundRows, HasHistory, AreSoundParts}
-use Rattle.csi_orchestrator.specs.Public.Steps.{IsReached, GoesOn}
+use Rattle.csi_orchestrator.proofs.Words.{◌≡◌, refl, sym, ◌∙◌, ap, subst, Result, Ok, Err, IfOk, IfErr, OrchFault}
+use Rattle.csi_orchestrator.proofs.Words.{History, with_items, IsWellFormed, Input, Restarts, Loses, Answer, Moved}
+use Rattle.csi_orchestrator.proofs.Words.{moves, moved_to, OrchestratorParts, Shows, MovedRows, IsRefusal, row_moves}
+use Rattle.csi_orchestrator.proofs.Words.{IsMoveOf, RowsAnswer, AreSteadyRowsIf, AreSoundRows, HasHistory}
+use Rattle.csi_orchestrator.proofs.Words.{AreSoundParts, IsReached, GoesOn}
 use Rattle.csi_orchestrator.specs.Public.Promises.{FollowsUnrefused, IsAnsweredAs}
 use Rattle.csi_orchestrator.proofs.AddedItems.{moves-add, stays-formed}
 use Rattle.csi_orchestrator.proofs.SendingAgrees.{Tells}

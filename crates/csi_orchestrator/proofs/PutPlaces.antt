@@ -1,14 +1,8 @@
 -- Where an entry stands that was put in by its text, and that all others are as they were.
-use Rattle.std.proofs.Common.{◌≡◌, ℕ, zero, suc, List, [], ◌∷◌, Bool, true, false, cond, length, take, drop, refl, sym, ◌∙◌, ap, subst}
-use Rattle.std.specs.Prelude.{Some, None, find}
-use Rattle.std.proofs.lemmas.Option.{none-some, same_Some}
-use Rattle.csi_lists.specs.Model.Members.{EachTwo}
-use Rattle.csi_lists.specs.Public.Places.{IsAt, FirstAt}
-use Rattle.csi_lists.proofs.Each.{each-at}
-use Rattle.csi_lists.proofs.Searches.{find-missed}
-use Rattle.csi_types.specs.Model.Same.{same_text}
-use Rattle.csi_types.proofs.Equality.{same_text-tells}
-use Rattle.csi_orchestrator.specs.Private.Keyed.{put_by}
+use Rattle.csi_orchestrator.proofs.Words.{◌≡◌, ℕ, zero, suc, List, [], ◌∷◌, Bool, true, false, cond, length, take, drop}
+use Rattle.csi_orchestrator.proofs.Words.{refl, sym, ◌∙◌, ap, subst, Some, None, find, EachTwo, IsAt, FirstAt}
+use Rattle.csi_orchestrator.proofs.Words.{same_text, put_by}
+use Rattle.csi_orchestrator.proofs.Lemmas.{none-some, same_Some, each-at, find-missed, same_text-tells}
 use Rattle.csi_orchestrator.proofs.TextLists.{text-same}
 
 -- ---- the place of what is found

@@ -1,28 +1,20 @@
 -- Why a refusal is read from the rows.
-use Rattle.std.proofs.Common.{◌≡◌, ℕ, List, Bool, true, false, cond, length, arith, refl, sym, ◌∙◌, ap, subst}
-use Rattle.std.specs.Prelude.{Option, Some, None, is_some, is_none, not, option_and_then, nat_lt, ◌==◌, ◌&&◌}
-use Rattle.std.specs.List.{AllByRecursion}
-use Rattle.std.proofs.lemmas.Bool.{false≢true}
-use Rattle.std.proofs.lemmas.Bool.Decides.{nat_tests}
-use Rattle.csi_lists.specs.Model.Members.{IsAmong}
-use Rattle.csi_lists.proofs.Members.{among-find, some-found, some-has}
-use Rattle.csi_lists.proofs.Options.{is_some-map}
-use Rattle.csi_lists.proofs.Tests.{then-any, any-then}
-use Rattle.csi_types.specs.Model.Same.{same_text}
-use Rattle.csi_types.proofs.Equality.{same_text-tells}
+use Rattle.csi_orchestrator.proofs.Words.{◌≡◌, ℕ, List, Bool, true, false, cond, length, arith, refl, sym, ◌∙◌, ap}
+use Rattle.csi_orchestrator.proofs.Words.{subst, Option, Some, None, is_some, is_none, not, option_and_then, nat_lt}
+use Rattle.csi_orchestrator.proofs.Words.{◌==◌, ◌&&◌, AllByRecursion, IsAmong, same_text, Exists, Attached, Published}
+use Rattle.csi_orchestrator.proofs.Words.{is_no, History, id_of, goal_of, names_of, has_row, targets_in_use, due_for}
+use Rattle.csi_orchestrator.proofs.Words.{next_number, is_session_spent, create_fault, is_for_one_node}
+use Rattle.csi_orchestrator.proofs.Words.{uses_as_second_writer, use_fault, use_room_fault, is_left_at, stop_fault}
+use Rattle.csi_orchestrator.proofs.Words.{delete_fault, delete_busy_fault, timeout_fault, RowShown, OrchestratorParts}
+use Rattle.csi_orchestrator.proofs.Words.{row_of, node_entry_of, mark_of, goal_shown, goal_in, Shows, AreSoundRows}
+use Rattle.csi_orchestrator.proofs.Words.{is_last, first_fault, again_fault, use_refusal, room_refusal, is_left}
+use Rattle.csi_orchestrator.proofs.Words.{stop_refusal, delete_refusal, busy_refusal, others_in, due_by}
+use Rattle.csi_orchestrator.proofs.Words.{AreTargetsApart}
+use Rattle.csi_orchestrator.proofs.Lemmas.{false≢true, nat_tests, among-find, some-found, some-has, is_some-map}
+use Rattle.csi_orchestrator.proofs.Lemmas.{then-any, any-then, same_text-tells}
 use Rattle.csi_orchestrator.specs.declared.fault.OrchFault.TheVariants as faults
-use Rattle.csi_orchestrator.specs.declared.thing.Thing.TheVariants.{Exists, Attached, Published}
 use Rattle.csi_orchestrator.specs.declared.row.Goal.TheVariants as kept
-use Rattle.csi_orchestrator.specs.Model.Thing.{is_no}
-use Rattle.csi_orchestrator.specs.Model.History.{Usage, Use, History}
-use Rattle.csi_orchestrator.specs.Model.Readings.{id_of, goal_of, names_of, has_row}
-use Rattle.csi_orchestrator.specs.Model.Due.{targets_in_use, due_for}
-use Rattle.csi_orchestrator.specs.Model.Commands.{next_number, is_session_spent, create_fault, is_for_one_node, uses_as_second_writer, use_fault, use_room_fault, is_left_at, stop_fault, delete_fault, delete_busy_fault, timeout_fault}
-use Rattle.csi_orchestrator.specs.Model.Shown.{RowShown, OrchestratorParts, row_of, node_entry_of, mark_of, goal_shown, goal_in, Shows}
-use Rattle.csi_orchestrator.specs.Public.Sound.{AreSoundRows}
-use Rattle.csi_orchestrator.specs.Private.RowRefusals.{is_last, first_fault, again_fault, use_refusal, room_refusal, is_left, stop_refusal, delete_refusal, busy_refusal}
-use Rattle.csi_orchestrator.specs.Public.RowDue.{others_in, due_by}
-use Rattle.csi_orchestrator.specs.Public.Shown.{AreTargetsApart}
+use Rattle.csi_orchestrator.specs.Model.History.{Usage, Use}
 use Rattle.csi_orchestrator.proofs.DueCalls.{use-told}
 use Rattle.csi_orchestrator.proofs.InUse.{target-in-use, in-use-alike, nodes-alike, elsewhere-alike, attached-alike, otherwise-alike, others-alike, others-counted}
 use Rattle.csi_orchestrator.proofs.RulesStay.{found-kept}

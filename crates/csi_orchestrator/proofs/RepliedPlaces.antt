@@ -1,35 +1,15 @@
 -- The row that a reply is to, by its place among the kept ones, and the step that it takes then.
-use Rattle.std.proofs.Common.{◌≡◌, ℕ, zero, suc, List, [], ◌∷◌, false, map, sym, ◌∙◌, ap, subst}
-use Rattle.std.specs.Prelude.{Option, Some, None, position, slice_get, Result, Ok, Err, IsErrAnd}
-use Rattle.std.specs.List.{AllByRecursion}
-use Rattle.std.proofs.lemmas.Option.{same_Some}
-use Rattle.csi_types.specs.declared.call.Kind.{Kind}
-use Rattle.csi_types.specs.declared.call.Party.{Party}
-use Rattle.csi_types.specs.declared.frame.Body.{Body}
+use Rattle.csi_orchestrator.proofs.Words.{◌≡◌, ℕ, zero, suc, List, [], ◌∷◌, false, map, sym, ◌∙◌, ap, subst, Option}
+use Rattle.csi_orchestrator.proofs.Words.{Some, None, position, slice_get, Result, Ok, Err, IsErrAnd, AllByRecursion}
+use Rattle.csi_orchestrator.proofs.Words.{Kind, Party, Body, Number, Reply, Frame, EachTwo, IsAt, FirstAt, same_text}
+use Rattle.csi_orchestrator.proofs.Words.{Ignored, OrchFault, OrchestratorCore, Row, Step, rows_of}
+use Rattle.csi_orchestrator.proofs.Words.{orchestrator_parts_shown, IsDueSuccess, Input, Comes, Answer, Hears, hears}
+use Rattle.csi_orchestrator.proofs.Words.{RowShown, OrchestratorParts, row_of, open_in_row, row_shown, MovedRow}
+use Rattle.csi_orchestrator.proofs.Words.{row_step, moved_rows, IsRefusal, outgoing_frame, all_rows_moved, steps_at}
+use Rattle.csi_orchestrator.proofs.Words.{is_issued_as, step_heard, hears_reply, receives, row_moves, RowsAnswer}
+use Rattle.csi_orchestrator.proofs.Words.{IsMoveOf, AreSoundRows}
+use Rattle.csi_orchestrator.proofs.Lemmas.{same_Some, position-first, same_text-tells}
 use Rattle.csi_types.specs.declared.frame.Body.TheVariants as bodies
-use Rattle.csi_types.specs.declared.number.Number.{Number}
-use Rattle.csi_types.specs.declared.reply.Reply.{Reply}
-use Rattle.csi_types.specs.Model.Frame.{Frame}
-use Rattle.csi_lists.specs.Model.Members.{EachTwo}
-use Rattle.csi_lists.specs.Public.Places.{IsAt, FirstAt}
-use Rattle.csi_lists.proofs.Places.{position-first}
-use Rattle.csi_types.specs.Model.Same.{same_text}
-use Rattle.csi_types.proofs.Equality.{same_text-tells}
-use Rattle.csi_orchestrator.specs.declared.fault.Heard.TheVariants.{Ignored}
-use Rattle.csi_orchestrator.specs.declared.fault.OrchFault.{OrchFault}
-use Rattle.csi_orchestrator.specs.declared.state.OrchestratorCore.{OrchestratorCore}
-use Rattle.csi_orchestrator.specs.declared.row.Row.{Row}
-use Rattle.csi_orchestrator.specs.declared.step.Step.{Step}
-use Rattle.csi_orchestrator.specs.Public.Catalog.{rows_of}
-use Rattle.csi_orchestrator.specs.Public.CoreParts.{orchestrator_parts_shown}
-use Rattle.csi_orchestrator.specs.Private.Hearing.{IsDueSuccess}
-use Rattle.csi_orchestrator.specs.Model.Moves.{Input, Comes, Answer, Hears, hears}
-use Rattle.csi_orchestrator.specs.Model.Shown.{RowShown, OrchestratorParts, row_of, open_in_row}
-use Rattle.csi_orchestrator.specs.Public.Shown.{row_shown}
-use Rattle.csi_orchestrator.specs.Private.RowSteps.{MovedRow, row_step}
-use Rattle.csi_orchestrator.specs.Public.RowMoves.{moved_rows, IsRefusal}
-use Rattle.csi_orchestrator.specs.Private.RowMoves.{outgoing_frame, all_rows_moved, steps_at, is_issued_as, step_heard, hears_reply, receives, row_moves, RowsAnswer, IsMoveOf}
-use Rattle.csi_orchestrator.specs.Public.Sound.{AreSoundRows}
 use Rattle.csi_orchestrator.proofs.RowsByName.{row-at, shown-there}
 use Rattle.csi_orchestrator.proofs.ChangedEntries.{find-place, find-none_placed}
 use Rattle.csi_orchestrator.proofs.RowsUnderNames.{read-at}

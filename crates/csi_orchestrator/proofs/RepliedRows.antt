@@ -1,28 +1,13 @@
 -- Why the row whose open call a reply is to is found by its number, plugin and kind.
-use Rattle.std.proofs.Common.{◌≡◌, Bool, true, refl, sym, ◌∙◌, ap}
-use Rattle.std.specs.Prelude.{Option, Some, None, option_map, option_and_then, find, ◌&&◌}
-use Rattle.std.proofs.lemmas.Bool.{and_parts, and_from, false≢true, false_from_ne_true}
-use Rattle.csi_types.specs.declared.call.Kind.{Kind}
-use Rattle.csi_types.specs.declared.call.Party.{Party}
-use Rattle.csi_types.specs.declared.number.Number.{Number}
-use Rattle.csi_types.specs.Model.Call.{kind_of}
-use Rattle.csi_lists.specs.Model.Members.{IsAmong}
-use Rattle.csi_lists.proofs.Members.{among-find, none_passes}
-use Rattle.csi_lists.proofs.Searches.{find-passes, find-one, find-none}
-use Rattle.std.proofs.lemmas.Option.{none-some}
-use Rattle.csi_types.specs.Model.Same.{same_text, same_number, same_party, same_kind}
-use Rattle.csi_types.proofs.Equality.{same_text-tells, same_number-tells, same_party-tells, same_kind-tells}
-use Rattle.csi_orchestrator.specs.declared.row.OpenCall.{OpenCall}
-use Rattle.csi_orchestrator.specs.Model.Thing.{Issued}
-use Rattle.csi_orchestrator.specs.Model.History.{History}
-use Rattle.csi_orchestrator.specs.Model.Readings.{open_call, issued_in}
-use Rattle.csi_orchestrator.specs.Model.Moves.{call_replied, is_number_open}
-use Rattle.csi_orchestrator.specs.Model.WellFormed.{IsWellFormed}
-use Rattle.csi_orchestrator.specs.Model.Due.{Due, call_for}
-use Rattle.csi_orchestrator.specs.Model.Shown.{RowShown, OrchestratorParts, row_of, goal_in, issued_as, open_in_row, Shows}
-use Rattle.csi_orchestrator.specs.Public.RowDue.{due_open}
-use Rattle.csi_orchestrator.specs.Private.RowMoves.{is_issued_as, row_replied}
-use Rattle.csi_orchestrator.specs.Public.Sound.{AreSoundRows}
+use Rattle.csi_orchestrator.proofs.Words.{◌≡◌, Bool, true, refl, sym, ◌∙◌, ap, Option, Some, None, option_map}
+use Rattle.csi_orchestrator.proofs.Words.{option_and_then, find, ◌&&◌, Kind, Party, Number, kind_of, IsAmong, same_text}
+use Rattle.csi_orchestrator.proofs.Words.{same_number, same_party, same_kind, OpenCall, Issued, History, open_call}
+use Rattle.csi_orchestrator.proofs.Words.{issued_in, call_replied, is_number_open, IsWellFormed, Due, call_for}
+use Rattle.csi_orchestrator.proofs.Words.{RowShown, OrchestratorParts, row_of, goal_in, issued_as, open_in_row, Shows}
+use Rattle.csi_orchestrator.proofs.Words.{due_open, is_issued_as, row_replied, AreSoundRows}
+use Rattle.csi_orchestrator.proofs.Lemmas.{and_parts, and_from, false≢true, false_from_ne_true, among-find, none_passes}
+use Rattle.csi_orchestrator.proofs.Lemmas.{find-passes, find-one, find-none, none-some, same_text-tells}
+use Rattle.csi_orchestrator.proofs.Lemmas.{same_number-tells, same_party-tells, same_kind-tells}
 use Rattle.csi_orchestrator.proofs.Numbers.{one-call, open-sent}
 use Rattle.csi_orchestrator.proofs.RowsAfterSending.{issued-by}
 use Rattle.csi_orchestrator.proofs.JoinedLists.{own-entry}

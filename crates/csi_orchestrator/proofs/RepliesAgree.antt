@@ -1,49 +1,26 @@
 -- Why the rows tell what the history tells of a timeout, a reply and a restart.
-use Rattle.std.proofs.Common.{◌≡◌, ℕ, List, [], ◌∷◌, Bool, true, false, cond, refl, sym, ◌∙◌, ap, subst}
-use Rattle.std.specs.Prelude.{Option, Some, None, ◌==◌, ◌&&◌, is_none, option_map, option_and_then, Result, Ok, Err}
-use Rattle.std.proofs.lemmas.Bool.{false≢true, and_parts}
-use Rattle.std.proofs.lemmas.Option.{same_Some, none-some}
-use Rattle.csi_types.specs.declared.call.Kind.{Kind}
-use Rattle.csi_types.specs.declared.call.Party.{Party}
-use Rattle.csi_types.specs.declared.frame.Body.{Body}
+use Rattle.csi_orchestrator.proofs.Words.{◌≡◌, ℕ, List, [], ◌∷◌, Bool, true, false, cond, refl, sym, ◌∙◌, ap, subst}
+use Rattle.csi_orchestrator.proofs.Words.{Option, Some, None, ◌==◌, ◌&&◌, is_none, option_map, option_and_then, Result}
+use Rattle.csi_orchestrator.proofs.Words.{Ok, Err, Kind, Party, Body, Number, Reply, kind_of, Frame, is_ok_status}
+use Rattle.csi_orchestrator.proofs.Words.{same_text, Ignored, OrchFault, Goal, OpenCall, Create, Use, Stop, Delete}
+use Rattle.csi_orchestrator.proofs.Words.{Usage, Issued, Item, Accepted, Noted, History, with_items, goal_of, open_call}
+use Rattle.csi_orchestrator.proofs.Words.{tries, IsWellFormed, timeout_fault, Due, call_for, Input, ToCreate, ToUse}
+use Rattle.csi_orchestrator.proofs.Words.{ToStop, ToDelete, TimesOut, Comes, Restarts, Loses, Answer, Sends, Hears}
+use Rattle.csi_orchestrator.proofs.Words.{Moved, send_due, is_forward, is_forward_due, undoing_goal, closing, timeout}
+use Rattle.csi_orchestrator.proofs.Words.{hears, call_replied, heard, heard_refusal, deliver, moves, OrchestratorView}
+use Rattle.csi_orchestrator.proofs.Words.{Agrees, after_accepted, after_closed, after_noted, RowShown}
+use Rattle.csi_orchestrator.proofs.Words.{OrchestratorParts, row_of, goal_in, goal_shown, held_on_node, open_in_row}
+use Rattle.csi_orchestrator.proofs.Words.{issued_as, orchestrator_view, Shows, closed, due_in, kind_due, succeeded_row}
+use Rattle.csi_orchestrator.proofs.Words.{wanted_row, stopped_goal, idle_refusal, MovedRow, row_sends_due, row_rests}
+use Rattle.csi_orchestrator.proofs.Words.{row_unless, waits_for, is_given_up, timed_out, failed, MovedRows, moved_rows}
+use Rattle.csi_orchestrator.proofs.Words.{all_rows_moved, steps_at, row_replied, is_issued_as, hears_reply, receives}
+use Rattle.csi_orchestrator.proofs.Words.{row_moves, AreSteadyRowsIf, IsSoundRow, AreSoundRows, AreGuarded, RowsTell}
+use Rattle.csi_orchestrator.proofs.Words.{MovesAreGuarded}
+use Rattle.csi_orchestrator.proofs.Lemmas.{false≢true, and_parts, same_Some, none-some, find-passes}
 use Rattle.csi_types.specs.declared.frame.Body.TheVariants as bodies
-use Rattle.csi_types.specs.declared.number.Number.{Number}
-use Rattle.csi_types.specs.declared.reply.Reply.{Reply}
-use Rattle.csi_types.specs.Model.Call.{kind_of}
-use Rattle.csi_types.specs.Model.Frame.{Frame}
-use Rattle.csi_types.specs.Model.Reply.{is_ok_status}
-use Rattle.csi_types.specs.Model.Same.{same_text}
-use Rattle.csi_lists.proofs.Searches.{find-passes}
-use Rattle.csi_orchestrator.specs.declared.fault.Heard.TheVariants.{Ignored}
-use Rattle.csi_orchestrator.specs.declared.fault.OrchFault.{OrchFault}
 use Rattle.csi_orchestrator.specs.declared.fault.OrchFault.TheVariants as faults
-use Rattle.csi_orchestrator.specs.declared.row.Goal.{Goal}
-use Rattle.csi_orchestrator.specs.declared.row.OpenCall.{OpenCall}
-use Rattle.csi_orchestrator.specs.declared.row.Goal.TheVariants.{Create, Use, Stop, Delete}
-use Rattle.csi_orchestrator.specs.declared.request.Usage.{Usage}
 use Rattle.csi_orchestrator.specs.declared.step.Step.TheVariants.{TimeOut, Succeed, Fail}
-use Rattle.csi_orchestrator.specs.Model.Thing.{Issued}
-use Rattle.csi_orchestrator.specs.Model.History.{Item, Accepted, Noted, History, with_items}
 use Rattle.csi_orchestrator.specs.Model.History as wishes
-use Rattle.csi_orchestrator.specs.Model.Readings.{goal_of, open_call, tries}
-use Rattle.csi_orchestrator.specs.Model.WellFormed.{IsWellFormed}
-use Rattle.csi_orchestrator.specs.Model.Commands.{timeout_fault}
-use Rattle.csi_orchestrator.specs.Model.Due.{Due, call_for}
-use Rattle.csi_orchestrator.specs.Model.Moves.{Input, ToCreate, ToUse, ToStop, ToDelete, TimesOut, Comes, Restarts, Loses, Answer, Sends, Hears, Moved, send_due, is_forward, is_forward_due, undoing_goal, closing, timeout, hears, call_replied, heard, heard_refusal, deliver, moves}
-use Rattle.csi_orchestrator.specs.Model.Agrees.{OrchestratorView, Agrees}
-use Rattle.csi_orchestrator.specs.Private.Following.{after_accepted, after_closed, after_noted}
-use Rattle.csi_orchestrator.specs.Model.Shown.{RowShown, OrchestratorParts, row_of, goal_in, goal_shown, held_on_node, open_in_row, issued_as, orchestrator_view, Shows}
-use Rattle.csi_orchestrator.specs.Public.Shown.{closed}
-use Rattle.csi_orchestrator.specs.Public.RowDue.{due_in}
-use Rattle.csi_orchestrator.specs.Private.Found.{kind_due}
-use Rattle.csi_orchestrator.specs.Private.RowChanges.{succeeded_row, wanted_row, stopped_goal}
-use Rattle.csi_orchestrator.specs.Private.RowRefusals.{idle_refusal}
-use Rattle.csi_orchestrator.specs.Private.RowSteps.{MovedRow, row_sends_due, row_rests, row_unless, waits_for, is_given_up, timed_out, failed}
-use Rattle.csi_orchestrator.specs.Public.RowMoves.{MovedRows, moved_rows}
-use Rattle.csi_orchestrator.specs.Private.RowMoves.{all_rows_moved, steps_at, row_replied, is_issued_as, hears_reply, receives, row_moves}
-use Rattle.csi_orchestrator.specs.Public.Steady.{AreSteadyRowsIf}
-use Rattle.csi_orchestrator.specs.Public.Sound.{IsSoundRow, AreSoundRows, AreGuarded}
-use Rattle.csi_orchestrator.specs.Private.Sound.{RowsTell, MovesAreGuarded}
 use Rattle.csi_orchestrator.proofs.TextLists.{text-same}
 use Rattle.csi_orchestrator.proofs.DueCalls.{due-of-row}
 use Rattle.csi_orchestrator.proofs.DueCases.{IsDueFor, due-cases, ToMake, ToRemove, ToAttach, ToStage, ToPublish, ToUnpublish, ToUnstage, ToDetach}

@@ -1,30 +1,17 @@
 -- Why what an orchestrator shows follows a reply that it takes.
-use Rattle.std.proofs.Common.{◌≡◌, ◌≢◌, ℕ, List, [], ◌∷◌, Bool, true, false, cond, refl, sym, ◌∙◌, ap, subst}
-use Rattle.std.specs.Prelude.{Option, Some, None, min, find, filter, filter_map, ◌&&◌}
-use Rattle.std.specs.List.{cons_option}
-use Rattle.std.specs.Option.{option_or}
-use Rattle.std.proofs.lemmas.Bool.{false≢true, false_from_ne_true}
-use Rattle.csi_types.specs.declared.call.Call.{Call}
+use Rattle.csi_orchestrator.proofs.Words.{◌≡◌, ◌≢◌, ℕ, List, [], ◌∷◌, Bool, true, false, cond, refl, sym, ◌∙◌, ap}
+use Rattle.csi_orchestrator.proofs.Words.{subst, Option, Some, None, min, find, filter, filter_map, ◌&&◌, cons_option}
+use Rattle.csi_orchestrator.proofs.Words.{option_or, Call, Number, Status, IsAmong, is_ok_status, same_text}
+use Rattle.csi_orchestrator.proofs.Words.{same_number, Thing, Attached, No, Maybe, Issued, name_in, touches, Item}
+use Rattle.csi_orchestrator.proofs.Words.{Started, Lost, Forgotten, Sent, Accepted, Closed, Noted, History, with_items}
+use Rattle.csi_orchestrator.proofs.Words.{newest, since, is_forgetting, lifetime, ends, issued_in, issued_since}
+use Rattle.csi_orchestrator.proofs.Words.{has_success, known_by, known, id_in, id_by, id_of, open_in, open_call}
+use Rattle.csi_orchestrator.proofs.Words.{is_number_of, calls_since, AreWellFormed, IsWellFormed, OrchestratorView}
+use Rattle.csi_orchestrator.proofs.Words.{Agrees, after_accepted, known_by_success, id_brought}
+use Rattle.csi_orchestrator.proofs.Lemmas.{false≢true, false_from_ne_true, among-find, among-kept, among-append}
+use Rattle.csi_orchestrator.proofs.Lemmas.{find-passes, find-filter, alike, then-any, any-none, same_Some, none-some}
+use Rattle.csi_orchestrator.proofs.Lemmas.{same_text-tells, same_number-tells}
 use Rattle.csi_types.specs.declared.call.Call.TheVariants as calls
-use Rattle.csi_types.specs.declared.number.Number.{Number}
-use Rattle.csi_types.specs.declared.status.Status.{Status}
-use Rattle.csi_lists.specs.Model.Members.{IsAmong}
-use Rattle.csi_lists.proofs.Members.{among-find, among-kept, among-append}
-use Rattle.csi_lists.proofs.Searches.{find-passes, find-filter}
-use Rattle.csi_lists.proofs.Tests.{alike, then-any, any-none}
-use Rattle.std.proofs.lemmas.Option.{same_Some, none-some}
-use Rattle.csi_types.specs.Model.Reply.{is_ok_status}
-use Rattle.csi_types.specs.Model.Same.{same_text, same_number}
-use Rattle.csi_types.proofs.Equality.{same_text-tells, same_number-tells}
-use Rattle.csi_orchestrator.specs.declared.thing.Thing.{Thing}
-use Rattle.csi_orchestrator.specs.declared.thing.Thing.TheVariants.{Attached}
-use Rattle.csi_orchestrator.specs.declared.thing.Known.TheVariants.{No, Maybe}
-use Rattle.csi_orchestrator.specs.Model.Thing.{Issued, name_in, touches}
-use Rattle.csi_orchestrator.specs.Model.History.{Item, Started, Lost, Forgotten, Sent, Accepted, Closed, Noted, History, with_items}
-use Rattle.csi_orchestrator.specs.Model.Readings.{newest, since, is_forgetting, lifetime, ends, issued_in, issued_since, has_success, known_by, known, id_in, id_by, id_of, open_in, open_call, is_number_of, calls_since}
-use Rattle.csi_orchestrator.specs.Model.WellFormed.{AreWellFormed, IsWellFormed}
-use Rattle.csi_orchestrator.specs.Model.Agrees.{OrchestratorView, Agrees}
-use Rattle.csi_orchestrator.specs.Private.Following.{after_accepted, known_by_success, id_brought}
 use Rattle.csi_orchestrator.proofs.Numbers.{other-number, sent-before, one-call, unless-some, open-sent, open-silent, unused-closed}
 use Rattle.csi_orchestrator.proofs.SinceItems.{ends-break, forgets-break, split-issued, since-sent, open-since, filter-in-front, found-in-front}
 use Rattle.csi_orchestrator.proofs.ViewsFollow.{touches-name, latest, known-quiet, ids-quiet, no-id, number-same, unless-follows, and-false}
@@ -131,9 +118,6 @@ accepted-follows view history issued status id form agrees is_open =
           ∙ ap (λ b. min 3 (cond (is_ok_status status && b) 0 (calls_since name history.items))) (sym (own_number name (same_text issued.name name) refl));
     }
   where
-    item : Item
-    item = Accepted issued.number status id
-
     sent : IsAmong issued (issued_in history.items)
     sent = (open-sent issued.name history.items issued is_open).0
 

@@ -1,30 +1,16 @@
 -- Where a use or a delete is answered with no call, it is so already, and all stays as it was.
-use Rattle.std.proofs.Common.{◌≡◌, ℕ, List, false, cond, refl, sym, ◌∙◌, ap, subst}
-use Rattle.std.specs.Prelude.{Option, Some, None, is_none, option_and_then, Result, Ok, Err, IfOk}
-use Rattle.std.proofs.lemmas.Bool.{false≢true}
-use Rattle.csi_lists.specs.Public.Places.{FirstAt}
-use Rattle.csi_types.specs.declared.number.Number.{Number}
-use Rattle.csi_types.specs.Model.Frame.{Frame}
-use Rattle.csi_types.specs.Model.Same.{same_text}
-use Rattle.csi_orchestrator.specs.declared.fault.OrchFault.{OrchFault}
+use Rattle.csi_orchestrator.proofs.Words.{◌≡◌, ℕ, List, false, cond, refl, sym, ◌∙◌, ap, subst, Option, Some, None}
+use Rattle.csi_orchestrator.proofs.Words.{is_none, option_and_then, Result, Ok, Err, IfOk, FirstAt, Number, Frame}
+use Rattle.csi_orchestrator.proofs.Words.{same_text, OrchFault, Usage, Delete, Outgoing, Step, next_number, Due, Input}
+use Rattle.csi_orchestrator.proofs.Words.{ToUse, ToDelete, Sends, RowShown, OrchestratorParts, row_of, is_no}
+use Rattle.csi_orchestrator.proofs.Words.{marks_of_volume, delete_due, due_in, MovedRows, closed, wanted_row, put}
+use Rattle.csi_orchestrator.proofs.Words.{outgoing_frame, last_after, parts_after, all_rows_moved, steps_at, row_moves}
+use Rattle.csi_orchestrator.proofs.Words.{IsMoveOf, is_attached_somewhere, delete_refusal, step_refusal, late_refusal}
+use Rattle.csi_orchestrator.proofs.Words.{MovedRow, outgoing_by, row_moved, row_sends_due, row_rests, row_unless}
+use Rattle.csi_orchestrator.proofs.Words.{is_step_met, waits, row_before_call, row_takes, row_step}
+use Rattle.csi_orchestrator.proofs.Lemmas.{false≢true}
 use Rattle.csi_orchestrator.specs.declared.fault.OrchFault.TheVariants as faults
-use Rattle.csi_orchestrator.specs.declared.request.Usage.{Usage}
-use Rattle.csi_orchestrator.specs.declared.row.Goal.TheVariants.{Delete}
-use Rattle.csi_orchestrator.specs.declared.sending.Outgoing.{Outgoing}
-use Rattle.csi_orchestrator.specs.declared.step.Step.{Step}
 use Rattle.csi_orchestrator.specs.declared.step.Step.TheVariants as steps
-use Rattle.csi_orchestrator.specs.Model.Commands.{next_number}
-use Rattle.csi_orchestrator.specs.Model.Due.{Due}
-use Rattle.csi_orchestrator.specs.Model.Moves.{Input, ToUse, ToDelete, Sends}
-use Rattle.csi_orchestrator.specs.Model.Shown.{RowShown, OrchestratorParts, row_of}
-use Rattle.csi_orchestrator.specs.Model.Thing.{is_no}
-use Rattle.csi_orchestrator.specs.Public.RowDue.{marks_of_volume, delete_due, due_in}
-use Rattle.csi_orchestrator.specs.Public.RowMoves.{MovedRows}
-use Rattle.csi_orchestrator.specs.Public.Shown.{closed}
-use Rattle.csi_orchestrator.specs.Private.RowChanges.{wanted_row}
-use Rattle.csi_orchestrator.specs.Private.RowMoves.{put, outgoing_frame, last_after, parts_after, all_rows_moved, steps_at, row_moves, IsMoveOf}
-use Rattle.csi_orchestrator.specs.Private.RowRefusals.{is_attached_somewhere, delete_refusal, step_refusal, late_refusal}
-use Rattle.csi_orchestrator.specs.Private.RowSteps.{MovedRow, outgoing_by, row_moved, row_sends_due, row_rests, row_unless, is_step_met, waits, row_before_call, row_takes, row_step}
 use Rattle.csi_orchestrator.proofs.DueAfterStep.{due-used}
 use Rattle.csi_orchestrator.proofs.DueCases.{removing}
 use Rattle.csi_orchestrator.proofs.EntryRules.{by_if}

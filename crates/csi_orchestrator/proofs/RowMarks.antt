@@ -1,25 +1,14 @@
 -- What a row tells once the thing of a call that was due for it is marked.
-use Rattle.std.proofs.Common.{◌≡◌, ℕ, List, ◌∷◌, Bool, true, false, cond, not, refl, sym, ◌∙◌, ap, subst}
-use Rattle.std.specs.Prelude.{Option, Some, None, find, option_map, ◌&&◌}
-use Rattle.std.proofs.lemmas.Bool.{false≢true}
-use Rattle.std.proofs.lemmas.Option.{same_Some}
-use Rattle.csi_types.specs.Model.Call.{kind_of}
-use Rattle.csi_types.specs.Model.Same.{same_text}
-use Rattle.csi_types.proofs.Equality.{same_text-tells}
-use Rattle.csi_orchestrator.specs.declared.marks.Marks.{Marks}
-use Rattle.csi_orchestrator.specs.declared.row.Goal.{Goal}
-use Rattle.csi_orchestrator.specs.declared.row.Goal.TheVariants.{Create, Use, Stop, Delete}
-use Rattle.csi_orchestrator.specs.declared.row.TargetEntry.{TargetEntry}
-use Rattle.csi_orchestrator.specs.declared.thing.Thing.{Thing}
-use Rattle.csi_orchestrator.specs.declared.thing.Thing.TheVariants.{Exists, Attached, Staged, Published}
-use Rattle.csi_orchestrator.specs.declared.thing.Known.{Known}
-use Rattle.csi_orchestrator.specs.Model.Thing.{name_in, same_thing, thing_at, is_thing, is_no}
-use Rattle.csi_orchestrator.specs.Model.Due.{Due}
-use Rattle.csi_orchestrator.specs.Private.Hearing.{marks_marked}
-use Rattle.csi_orchestrator.specs.Public.Sound.{HasEntry, MayBeWanted}
-use Rattle.csi_orchestrator.specs.Private.RowChanges.{Aspect, Existence, Attachment, Staging, Publication, aspect_of, node_marked, marked_at, at_goal, exists_marked, nodes_marked, marked_row}
-use Rattle.csi_orchestrator.specs.Model.Shown.{NodeEntryShown, RowShown, node_entry_of, target_entry_of, mark_in, publication_known, mark_of, held_on_node, held_at}
-use Rattle.csi_orchestrator.specs.Public.RowDue.{others_in, marks_of_volume, marks_at, marks_for}
+use Rattle.csi_orchestrator.proofs.Words.{◌≡◌, ℕ, List, ◌∷◌, Bool, true, false, cond, not, refl, sym, ◌∙◌, ap, subst}
+use Rattle.csi_orchestrator.proofs.Words.{Option, Some, None, find, option_map, ◌&&◌, kind_of, same_text, Marks, Goal}
+use Rattle.csi_orchestrator.proofs.Words.{Create, Use, Stop, Delete, TargetEntry, Thing, Exists, Attached, Staged}
+use Rattle.csi_orchestrator.proofs.Words.{Published, Known, name_in, same_thing, thing_at, is_thing, is_no, Due}
+use Rattle.csi_orchestrator.proofs.Words.{marks_marked, HasEntry, MayBeWanted, Aspect, Existence, Attachment, Staging}
+use Rattle.csi_orchestrator.proofs.Words.{Publication, aspect_of, node_marked, marked_at, at_goal, exists_marked}
+use Rattle.csi_orchestrator.proofs.Words.{nodes_marked, marked_row, NodeEntryShown, RowShown, node_entry_of}
+use Rattle.csi_orchestrator.proofs.Words.{target_entry_of, mark_in, publication_known, mark_of, held_on_node, held_at}
+use Rattle.csi_orchestrator.proofs.Words.{others_in, marks_of_volume, marks_at, marks_for}
+use Rattle.csi_orchestrator.proofs.Lemmas.{false≢true, same_Some, same_text-tells}
 use Rattle.csi_orchestrator.proofs.TextLists.{text-same}
 use Rattle.csi_orchestrator.proofs.DueCases.{IsDueFor, ToMake, ToRemove, ToAttach, ToStage, ToPublish, ToUnpublish, ToUnstage, ToDetach}
 use Rattle.csi_orchestrator.proofs.TextLists.{same_text-flip}

@@ -1,33 +1,16 @@
 -- What holds of a row after it was changed.
-use Rattle.std.proofs.Common.{◌≡◌, ℕ, List, Bool, false, cond, not, map, refl, sym, ◌∙◌, ap, subst}
-use Rattle.std.specs.Prelude.{Option, Some, None, option_map, find, ◌&&◌}
-use Rattle.std.specs.List.{AllByRecursion, list_any}
-use Rattle.csi_types.specs.declared.call.Kind.{Kind}
+use Rattle.csi_orchestrator.proofs.Words.{◌≡◌, ℕ, List, Bool, false, cond, not, map, refl, sym, ◌∙◌, ap, subst, Option}
+use Rattle.csi_orchestrator.proofs.Words.{Some, None, option_map, find, ◌&&◌, AllByRecursion, list_any, Kind, Number}
+use Rattle.csi_orchestrator.proofs.Words.{kind_of, same_text, Goal, Create, Use, Stop, Delete, TargetEntry, Usage}
+use Rattle.csi_orchestrator.proofs.Words.{Known, No, Maybe, is_no, Held, is_for_one_node, uses_as_second_writer, Due}
+use Rattle.csi_orchestrator.proofs.Words.{NodeEntryShown, RowShown, node_entry_of, target_entry_of, held_at}
+use Rattle.csi_orchestrator.proofs.Words.{AreTargetsApart, closed, due_by, due_in, Aspect, Existence, Publication}
+use Rattle.csi_orchestrator.proofs.Words.{aspect_of, node_marked, marked_at, at_goal, exists_marked, nodes_marked}
+use Rattle.csi_orchestrator.proofs.Words.{marked_row, row_once_sent, known_by_success_of, succeeded_row, wanted_row}
+use Rattle.csi_orchestrator.proofs.Words.{is_target_kept, with_kept_targets, is_node_kept, dropped_row, stopped_goal}
+use Rattle.csi_orchestrator.proofs.Words.{is_so_elsewhere, change_by, AreNodesApart, IsUsable, MayBeWanted, IsSoundRow}
+use Rattle.csi_orchestrator.proofs.Lemmas.{two-filter, none-some, each-filter, each-map, same_text-tells}
 use Rattle.csi_types.specs.declared.call.Kind.TheVariants as kinds
-use Rattle.csi_types.specs.declared.number.Number.{Number}
-use Rattle.csi_types.specs.Model.Call.{kind_of}
-use Rattle.csi_types.specs.Model.Same.{same_text}
-use Rattle.csi_lists.proofs.Pairs.{two-filter}
-use Rattle.std.proofs.lemmas.Option.{none-some}
-use Rattle.csi_lists.proofs.Each.{each-filter, each-map}
-use Rattle.csi_types.proofs.Equality.{same_text-tells}
-use Rattle.csi_orchestrator.specs.declared.row.Goal.{Goal}
-use Rattle.csi_orchestrator.specs.declared.row.Goal.TheVariants.{Create, Use, Stop, Delete}
-use Rattle.csi_orchestrator.specs.declared.row.TargetEntry.{TargetEntry}
-use Rattle.csi_orchestrator.specs.declared.request.Usage.{Usage}
-use Rattle.csi_orchestrator.specs.declared.thing.Known.{Known}
-use Rattle.csi_orchestrator.specs.declared.thing.Known.TheVariants.{No, Maybe}
-use Rattle.csi_orchestrator.specs.Model.Thing.{is_no}
-use Rattle.csi_orchestrator.specs.Model.History.{Held}
-use Rattle.csi_orchestrator.specs.Model.Commands.{is_for_one_node, uses_as_second_writer}
-use Rattle.csi_orchestrator.specs.Model.Due.{Due}
-use Rattle.csi_orchestrator.specs.Model.Shown.{NodeEntryShown, RowShown, node_entry_of, target_entry_of, held_at}
-use Rattle.csi_orchestrator.specs.Public.Shown.{AreTargetsApart, closed}
-use Rattle.csi_orchestrator.specs.Public.RowDue.{due_by, due_in}
-use Rattle.csi_orchestrator.specs.Private.RowChanges.{Aspect, Existence, Publication, aspect_of, node_marked, marked_at, at_goal, exists_marked, nodes_marked, marked_row, row_once_sent, known_by_success_of, succeeded_row, wanted_row, is_target_kept, with_kept_targets, is_node_kept, dropped_row, stopped_goal}
-use Rattle.csi_orchestrator.specs.Public.RowRefusals.{is_so_elsewhere}
-use Rattle.csi_orchestrator.specs.Private.Keyed.{change_by}
-use Rattle.csi_orchestrator.specs.Public.Sound.{AreNodesApart, IsUsable, MayBeWanted, IsSoundRow}
 use Rattle.csi_orchestrator.proofs.TextLists.{text-same}
 use Rattle.csi_orchestrator.proofs.DueCases.{IsDueFor, due-cases, spelled, ToMake, ToRemove, ToAttach, ToStage, ToPublish, ToUnpublish, ToUnstage, ToDetach}
 use Rattle.csi_orchestrator.proofs.RowMarks.{has-entry}

@@ -1,23 +1,14 @@
 -- Why what is shown agrees with a history once one row stands in place of another.
-use Rattle.std.proofs.Common.{◌≡◌, ◌≢◌, ℕ, List, Bool, true, false, cond, refl, sym, ◌∙◌, ap, subst}
-use Rattle.std.specs.Prelude.{Option, Some, is_some, option_map, option_and_then}
-use Rattle.csi_lists.proofs.Searches.{find-passes}
-use Rattle.csi_types.specs.declared.number.Number.{Number}
-use Rattle.csi_types.specs.declared.status.Status.{Status}
-use Rattle.std.proofs.lemmas.Bool.{false≢true, false_from_ne_true}
-use Rattle.csi_types.specs.Model.Reply.{is_ok_status}
-use Rattle.csi_types.specs.Model.Same.{same_text}
-use Rattle.csi_types.proofs.Equality.{same_text-tells}
-use Rattle.csi_orchestrator.specs.declared.thing.Thing.{Thing}
-use Rattle.csi_orchestrator.specs.declared.thing.Thing.TheVariants.{Attached}
-use Rattle.csi_orchestrator.specs.declared.thing.Known.TheVariants.{No, Maybe}
-use Rattle.csi_orchestrator.specs.Model.Thing.{Issued, name_in, touches}
-use Rattle.csi_orchestrator.specs.Model.History.{Arguments, Goal, History}
-use Rattle.csi_orchestrator.specs.Model.Readings.{nodes_of, known, id_of, goal_of, arguments_of, held, open_call, tries, last_number, has_row}
-use Rattle.csi_orchestrator.specs.Model.Agrees.{OrchestratorView, Agrees}
-use Rattle.csi_orchestrator.specs.Private.Following.{after_sent, after_accepted, after_closed, after_noted}
-use Rattle.csi_orchestrator.specs.Model.Shown.{RowShown, OrchestratorParts, row_of, mark_in, mark_of, goal_in, held_on_node, open_in_row, tries_in, orchestrator_view, Shows}
-use Rattle.csi_orchestrator.specs.Private.RowMoves.{put}
+use Rattle.csi_orchestrator.proofs.Words.{◌≡◌, ◌≢◌, ℕ, List, Bool, true, false, cond, refl, sym, ◌∙◌, ap, subst, Option}
+use Rattle.csi_orchestrator.proofs.Words.{Some, is_some, option_map, option_and_then, Number, Status, is_ok_status}
+use Rattle.csi_orchestrator.proofs.Words.{same_text, Thing, Attached, No, Maybe, Issued, name_in, touches, Arguments}
+use Rattle.csi_orchestrator.proofs.Words.{History, nodes_of, known, id_of, goal_of, arguments_of, held, open_call}
+use Rattle.csi_orchestrator.proofs.Words.{tries, last_number, has_row, OrchestratorView, Agrees, after_sent}
+use Rattle.csi_orchestrator.proofs.Words.{after_accepted, after_closed, after_noted, RowShown, OrchestratorParts}
+use Rattle.csi_orchestrator.proofs.Words.{row_of, mark_in, mark_of, goal_in, held_on_node, open_in_row, tries_in}
+use Rattle.csi_orchestrator.proofs.Words.{orchestrator_view, Shows, put}
+use Rattle.csi_orchestrator.proofs.Lemmas.{find-passes, false≢true, false_from_ne_true, same_text-tells}
+use Rattle.csi_orchestrator.specs.Model.History.{Goal}
 use Rattle.csi_orchestrator.proofs.ViewsFollow.{touches-name, and-false}
 use Rattle.csi_orchestrator.proofs.KeyedSearches.{find-put}
 

@@ -1,36 +1,20 @@
 -- What a row tells once something was noted for it, or its call was given up.
-use Rattle.std.proofs.Common.{◌≡◌, ◌≢◌, ◌++◌, ℕ, List, [], ◌∷◌, map, Bool, true, false, cond, not, refl, sym, ◌∙◌, ap, subst}
-use Rattle.std.specs.Prelude.{Option, Some, None, find, filter, is_some, option_map, option_and_then, ◌&&◌}
-use Rattle.std.specs.List.{AllByRecursion}
-use Rattle.std.specs.Option.{option_or}
-use Rattle.std.proofs.lemmas.Bool.{false≢true, false_from_ne_true}
-use Rattle.std.proofs.lemmas.Option.{same_Some}
-use Rattle.csi_lists.specs.Model.Members.{IsAmong, EachTwo}
-use Rattle.csi_lists.proofs.Members.{each_of, among-find, among-kept, in_filter}
-use Rattle.csi_lists.proofs.Pairs.{two-filter}
-use Rattle.csi_lists.proofs.Searches.{find-map, find-append, find-passes, find-none, find-none_in_filter}
-use Rattle.csi_lists.proofs.Options.{option_or-some, option_or-none}
-use Rattle.csi_types.specs.Model.Same.{same_text}
-use Rattle.csi_types.proofs.Equality.{same_text-tells}
-use Rattle.csi_orchestrator.specs.declared.row.Goal.{Goal}
-use Rattle.csi_orchestrator.specs.declared.row.Goal.TheVariants.{Create}
-use Rattle.csi_orchestrator.specs.declared.row.OpenCall.{OpenCall}
-use Rattle.csi_orchestrator.specs.declared.row.TargetEntry.{TargetEntry}
-use Rattle.csi_orchestrator.specs.declared.request.Usage.{Usage}
-use Rattle.csi_orchestrator.specs.declared.thing.Thing.{Thing}
-use Rattle.csi_orchestrator.specs.declared.thing.Thing.TheVariants.{Exists, Attached, Staged, Published}
-use Rattle.csi_orchestrator.specs.declared.thing.Known.{Known}
-use Rattle.csi_orchestrator.specs.declared.thing.Known.TheVariants.{No}
-use Rattle.csi_orchestrator.specs.Model.Thing.{Issued, name_in, is_no}
-use Rattle.csi_orchestrator.specs.Model.History.{Arguments}
+use Rattle.csi_orchestrator.proofs.Words.{◌≡◌, ◌≢◌, ◌++◌, ℕ, List, [], ◌∷◌, map, Bool, true, false, cond, not, refl}
+use Rattle.csi_orchestrator.proofs.Words.{sym, ◌∙◌, ap, subst, Option, Some, None, find, filter, is_some, option_map}
+use Rattle.csi_orchestrator.proofs.Words.{option_and_then, ◌&&◌, AllByRecursion, option_or, IsAmong, EachTwo, same_text}
+use Rattle.csi_orchestrator.proofs.Words.{Goal, Create, OpenCall, TargetEntry, Usage, Thing, Exists, Attached, Staged}
+use Rattle.csi_orchestrator.proofs.Words.{Published, Known, No, Issued, name_in, is_no, Arguments, arguments_in_goal}
+use Rattle.csi_orchestrator.proofs.Words.{OrchestratorView, after_accepted, after_closed, after_noted, AreNodesApart}
+use Rattle.csi_orchestrator.proofs.Words.{wanted_row, row_wanted_anew, new_row, dropped_row, is_target_kept}
+use Rattle.csi_orchestrator.proofs.Words.{is_node_kept, has_targets, with_kept_targets, with_entry, entry_for}
+use Rattle.csi_orchestrator.proofs.Words.{with_target, new_target_entry, held_as, NodeEntryShown, RowShown}
+use Rattle.csi_orchestrator.proofs.Words.{OrchestratorParts, row_of, node_entry_of, target_entry_of, mark_in}
+use Rattle.csi_orchestrator.proofs.Words.{publication_known, mark_of, held_on_node, held_at, goal_shown, open_in_row}
+use Rattle.csi_orchestrator.proofs.Words.{orchestrator_view, AreTargetsApart, closed, Status, is_ok_status}
+use Rattle.csi_orchestrator.proofs.Lemmas.{false≢true, false_from_ne_true, same_Some, each_of, among-find, among-kept}
+use Rattle.csi_orchestrator.proofs.Lemmas.{in_filter, two-filter, find-map, find-append, find-passes, find-none}
+use Rattle.csi_orchestrator.proofs.Lemmas.{find-none_in_filter, option_or-some, option_or-none, same_text-tells}
 use Rattle.csi_orchestrator.specs.Model.History as history
-use Rattle.csi_orchestrator.specs.Model.Readings.{arguments_in_goal}
-use Rattle.csi_orchestrator.specs.Model.Agrees.{OrchestratorView}
-use Rattle.csi_orchestrator.specs.Private.Following.{after_accepted, after_closed, after_noted}
-use Rattle.csi_orchestrator.specs.Public.Sound.{AreNodesApart}
-use Rattle.csi_orchestrator.specs.Private.RowChanges.{wanted_row, row_wanted_anew, new_row, dropped_row, is_target_kept, is_node_kept, has_targets, with_kept_targets, with_entry, entry_for, with_target, new_target_entry, held_as}
-use Rattle.csi_orchestrator.specs.Model.Shown.{NodeEntryShown, RowShown, OrchestratorParts, row_of, node_entry_of, target_entry_of, mark_in, publication_known, mark_of, held_on_node, held_at, goal_shown, open_in_row, orchestrator_view}
-use Rattle.csi_orchestrator.specs.Public.Shown.{AreTargetsApart, closed}
 use Rattle.csi_orchestrator.proofs.TextLists.{text-same}
 use Rattle.csi_orchestrator.proofs.KnownTests.{no_is_no}
 use Rattle.csi_orchestrator.proofs.KeyedSearches.{find-put}
@@ -38,8 +22,6 @@ use Rattle.csi_orchestrator.proofs.RowViews.{Reads, Here, here}
 use Rattle.csi_orchestrator.proofs.JoinedLists.{own-entry}
 use Rattle.csi_orchestrator.proofs.EntryRules.{by_if}
 use Rattle.csi_orchestrator.proofs.RowsAfterSending.{mark-same}
-use Rattle.csi_types.specs.declared.status.Status.{Status}
-use Rattle.csi_types.specs.Model.Reply.{is_ok_status}
 
 -- of its own name
 own : {X : Type 0} (name : List ℕ) (x y : X) → cond (same_text name name) x y ≡ x
@@ -194,9 +176,7 @@ left-out entry e = by (is_no entry.attached) refl (is_no entry.staged) refl (has
     by : (a : Bool) → is_no entry.attached ≡ a → (s : Bool) → is_no entry.staged ≡ s → (h : Bool) → has_targets entry.target_entries ≡ h → not (a && s && not h) ≡ false
         → (entry.attached ≡ No) × (entry.staged ≡ No) × (has_targets entry.target_entries ≡ false)
     by true a true s false h e = (no_is_no entry.attached a, no_is_no entry.staged s, h)
-    by true a true s true h e = absurd (false≢true (sym e))
-    by true a false s h f e = absurd (false≢true (sym e))
-    by false a s t h f e = absurd (false≢true (sym e))
+    by a is_a s is_s h is_h e = absurd (false≢true (sym e))
 
 -- where a node has no target, none is published there
 no-targets : (target_entries : List TargetEntry) (target : List ℕ) → has_targets target_entries ≡ false → mark_in (λ (a : TargetEntry). a.published) (find (λ (a : TargetEntry). same_text a.target target) target_entries) ≡ No

@@ -1,35 +1,16 @@
 -- What a row tells once its due call was sent, and once that call succeeded.
-use Rattle.std.proofs.Common.{◌≡◌, ◌≢◌, ◌+◌, ℕ, List, Bool, true, false, cond, refl, sym, ◌∙◌, ap, subst}
-use Rattle.std.specs.Prelude.{Option, Some, None, min, option_map, ◌&&◌}
-use Rattle.std.specs.Option.{option_or}
-use Rattle.std.proofs.lemmas.Option.{same_Some}
-use Rattle.csi_types.specs.declared.call.Call.{Call}
+use Rattle.csi_orchestrator.proofs.Words.{◌≡◌, ◌≢◌, ◌+◌, ℕ, List, Bool, true, false, cond, refl, sym, ◌∙◌, ap, subst}
+use Rattle.csi_orchestrator.proofs.Words.{Option, Some, None, min, option_map, ◌&&◌, option_or, Call, Capability}
+use Rattle.csi_orchestrator.proofs.Words.{Number, Status, kind_of, is_ok_status, same_text, Goal, Create, Use, Stop}
+use Rattle.csi_orchestrator.proofs.Words.{Delete, Usage, Thing, Exists, Attached, No, Maybe, Issued, thing_at, is_thing}
+use Rattle.csi_orchestrator.proofs.Words.{touches, is_no, Held, held_by_call, OrchestratorView, Due, after_sent}
+use Rattle.csi_orchestrator.proofs.Words.{after_accepted, known_by_success, id_brought, marks_marked, HasEntry}
+use Rattle.csi_orchestrator.proofs.Words.{aspect_of, marked_row, row_once_sent, known_by_success_of, id_told}
+use Rattle.csi_orchestrator.proofs.Words.{succeeded_row, RowShown, node_entry_of, mark_in, mark_of, held_on_node}
+use Rattle.csi_orchestrator.proofs.Words.{held_at, marks_for, due_with, due_by, due_in}
+use Rattle.csi_orchestrator.proofs.Lemmas.{same_Some, same_text-tells}
 use Rattle.csi_types.specs.declared.call.Call.TheVariants as calls
 use Rattle.csi_types.specs.declared.call.Kind.TheVariants as kinds
-use Rattle.csi_types.specs.declared.capability.Capability.{Capability}
-use Rattle.csi_types.specs.declared.number.Number.{Number}
-use Rattle.csi_types.specs.declared.status.Status.{Status}
-use Rattle.csi_types.specs.Model.Call.{kind_of}
-use Rattle.csi_types.specs.Model.Reply.{is_ok_status}
-use Rattle.csi_types.specs.Model.Same.{same_text}
-use Rattle.csi_types.proofs.Equality.{same_text-tells}
-use Rattle.csi_orchestrator.specs.declared.row.Goal.{Goal}
-use Rattle.csi_orchestrator.specs.declared.row.Goal.TheVariants.{Create, Use, Stop, Delete}
-use Rattle.csi_orchestrator.specs.declared.request.Usage.{Usage}
-use Rattle.csi_orchestrator.specs.declared.thing.Thing.{Thing}
-use Rattle.csi_orchestrator.specs.declared.thing.Thing.TheVariants.{Exists, Attached}
-use Rattle.csi_orchestrator.specs.declared.thing.Known.TheVariants.{No, Maybe}
-use Rattle.csi_orchestrator.specs.Model.Thing.{Issued, thing_at, is_thing, touches, is_no}
-use Rattle.csi_orchestrator.specs.Model.History.{Held}
-use Rattle.csi_orchestrator.specs.Model.Readings.{held_by_call}
-use Rattle.csi_orchestrator.specs.Model.Agrees.{OrchestratorView}
-use Rattle.csi_orchestrator.specs.Model.Due.{Due}
-use Rattle.csi_orchestrator.specs.Private.Following.{after_sent, after_accepted, known_by_success, id_brought}
-use Rattle.csi_orchestrator.specs.Private.Hearing.{marks_marked}
-use Rattle.csi_orchestrator.specs.Public.Sound.{HasEntry}
-use Rattle.csi_orchestrator.specs.Private.RowChanges.{aspect_of, marked_row, row_once_sent, known_by_success_of, id_told, succeeded_row}
-use Rattle.csi_orchestrator.specs.Model.Shown.{RowShown, node_entry_of, mark_in, mark_of, held_on_node, held_at}
-use Rattle.csi_orchestrator.specs.Public.RowDue.{marks_for, due_with, due_by, due_in}
 use Rattle.csi_orchestrator.proofs.TextLists.{text-same}
 use Rattle.csi_orchestrator.proofs.DueCases.{spelled, attaching, staging, publishing, unpublishing, unstaging, detaching, IsDueFor, ToMake, ToRemove, ToAttach, ToStage, ToPublish, ToUnpublish, ToUnstage, ToDetach}
 use Rattle.csi_orchestrator.proofs.TextLists.{same_text-flip}

@@ -1,31 +1,14 @@
 -- Where the row of a name stands among the kept ones, and what is told by a step of it.
-use Rattle.std.proofs.Common.{◌≡◌, ◌++◌, ℕ, List, [], ◌∷◌, Bool, true, get_or, map, set, refl, sym, ◌∙◌, ap, subst}
-use Rattle.std.specs.Prelude.{Option, Some, None, position, slice_get, Result, Ok, Err}
-use Rattle.std.proofs.Math.Seq.{map-set_same}
-use Rattle.std.proofs.lemmas.List.Quantifiers.{position-Some}
-use Rattle.std.proofs.lemmas.Option.{none-some, same_Some}
-use Rattle.csi_lists.specs.Public.Places.{IsAt}
-use Rattle.csi_lists.proofs.Places.{at-index}
-use Rattle.csi_types.specs.declared.number.Number.{Number}
-use Rattle.csi_types.specs.Model.Frame.{Frame}
-use Rattle.csi_types.specs.Model.Same.{same_text}
-use Rattle.csi_orchestrator.specs.declared.fault.OrchFault.{OrchFault}
-use Rattle.csi_orchestrator.specs.declared.state.OrchestratorCore.{OrchestratorCore}
-use Rattle.csi_orchestrator.specs.declared.row.Row.{Row}
-use Rattle.csi_orchestrator.specs.declared.sending.Outgoing.{Outgoing}
-use Rattle.csi_orchestrator.specs.declared.step.Step.{Step}
+use Rattle.csi_orchestrator.proofs.Words.{◌≡◌, ◌++◌, ℕ, List, [], ◌∷◌, Bool, true, get_or, map, set, refl, sym, ◌∙◌, ap}
+use Rattle.csi_orchestrator.proofs.Words.{subst, Option, Some, None, position, slice_get, Result, Ok, Err, IsAt, Number}
+use Rattle.csi_orchestrator.proofs.Words.{Frame, same_text, OrchFault, OrchestratorCore, Row, Outgoing, Step, rows_of}
+use Rattle.csi_orchestrator.proofs.Words.{orchestrator_parts_shown, Arguments, Input, Answer, Sends, new_row}
+use Rattle.csi_orchestrator.proofs.Words.{first_fault, moved_rows, IsRefusal, put, outgoing_frame, last_after}
+use Rattle.csi_orchestrator.proofs.Words.{all_rows_moved, steps_at, creates, row_moves, input_asking, RowsAnswer}
+use Rattle.csi_orchestrator.proofs.Words.{RowShown, OrchestratorParts, row_of, row_shown, MovedRow, row_sends_due}
+use Rattle.csi_orchestrator.proofs.Words.{row_unless, row_step, SendsNothing}
+use Rattle.csi_orchestrator.proofs.Lemmas.{map-set_same, position-Some, none-some, same_Some, at-index}
 use Rattle.csi_orchestrator.specs.declared.step.Step.TheVariants as steps
-use Rattle.csi_orchestrator.specs.Public.Catalog.{rows_of}
-use Rattle.csi_orchestrator.specs.Public.CoreParts.{orchestrator_parts_shown}
-use Rattle.csi_orchestrator.specs.Model.History.{Arguments}
-use Rattle.csi_orchestrator.specs.Model.Moves.{Input, Answer, Sends}
-use Rattle.csi_orchestrator.specs.Private.RowChanges.{new_row}
-use Rattle.csi_orchestrator.specs.Private.RowRefusals.{first_fault}
-use Rattle.csi_orchestrator.specs.Public.RowMoves.{moved_rows, IsRefusal}
-use Rattle.csi_orchestrator.specs.Private.RowMoves.{put, outgoing_frame, last_after, all_rows_moved, steps_at, creates, row_moves, input_asking, RowsAnswer}
-use Rattle.csi_orchestrator.specs.Model.Shown.{RowShown, OrchestratorParts, row_of}
-use Rattle.csi_orchestrator.specs.Public.Shown.{row_shown}
-use Rattle.csi_orchestrator.specs.Private.RowSteps.{MovedRow, row_sends_due, row_unless, row_step, SendsNothing}
 use Rattle.csi_orchestrator.proofs.ChangedEntries.{find-place, find-none_placed, put-place, put-none_placed}
 use Rattle.csi_orchestrator.proofs.RowsUnderNames.{catalog_with, read-at, parts-set}
 use Rattle.csi_orchestrator.proofs.OpenCalls.{GoesOn, step-goes}
@@ -106,12 +89,9 @@ rows-stay core i r s stands same =
 -- what is asked of a name is told by a step
 pub asked : (parts : OrchestratorParts) (name : List ℕ) (step : Step) (input : Input) → input_asking name step ≡ Some input → steps_at parts Sends step (row_of parts.rows name) ≡ row_moves parts input
 asked parts name (steps.Create arguments) input is = absurd (none-some input is)
-asked parts name (steps.Use usage) input is = ap (row_moves parts) (same_Some _ input is)
-asked parts name (steps.Stop node target) input is = ap (row_moves parts) (same_Some _ input is)
-asked parts name steps.Delete input is = ap (row_moves parts) (same_Some _ input is)
-asked parts name steps.TimeOut input is = ap (row_moves parts) (same_Some _ input is)
 asked parts name (steps.Succeed kind id) input is = absurd (none-some input is)
 asked parts name steps.Fail input is = absurd (none-some input is)
+asked parts name step input is = ap (row_moves parts) (same_Some _ input is)
 
 -- what another create of a name is told by
 pub create-asked : (core : OrchestratorCore) (name : List ℕ) (arguments : Arguments) (i : ℕ) → position (λ (row : Row). same_text row.name name) (rows_of core.catalog) ≡ Some i

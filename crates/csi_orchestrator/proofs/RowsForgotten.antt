@@ -1,22 +1,12 @@
 -- The maps of a catalog once rows were forgotten, and once a node was lost.
-use Rattle.std.proofs.Common.{◌≡◌, ◌<◌, ◌≤◌, ◌+◌, ◌*◌, ℕ, zero, suc, List, [], ◌∷◌, ◌++◌, take, drop, Bool, not, length, map, refl, sym, ◌∙◌, ap, subst, arith}
-use Rattle.std.specs.Prelude.{Some, None, filter, slice_get}
-use Rattle.std.specs.List.{AllByRecursion}
-use Rattle.std.proofs.lemmas.List.{length-map, length-set, take_all, drop_all}
-use Rattle.std.proofs.Common.{append-nil}
-use Rattle.std.proofs.lemmas.Option.{none-some, get_or_from_slice_get}
-use Rattle.csi_lists.proofs.Places.{same-at, map_over_more-shown}
-use Rattle.csi_lists.specs.Public.Places.{IsAt}
-use Rattle.csi_lists.proofs.Each.{each-at, each-filter, each-map}
-use Rattle.csi_lists.proofs.Filters.{filter-of_map, filter-no_longer}
-use Rattle.indexmap.specs.IndexMap.{IndexMap, spare, index_map_len}
-use Rattle.csi_orchestrator.specs.declared.catalog.Catalog.{Catalog}
-use Rattle.csi_orchestrator.specs.declared.row.Row.{Row}
-use Rattle.csi_orchestrator.specs.Model.Shown.{RowShown}
-use Rattle.csi_orchestrator.specs.Public.Beginning.{is_row_forgotten, remembered, row_at_loss}
-use Rattle.csi_orchestrator.specs.Private.Catalog.{IsLostAt}
-use Rattle.csi_orchestrator.specs.Public.Catalog.{rows_of, by_name, HasRoomForCalls, IsIndexed}
-use Rattle.csi_orchestrator.specs.Public.Shown.{row_shown}
+use Rattle.csi_orchestrator.proofs.Words.{◌≡◌, ◌<◌, ◌≤◌, ◌+◌, ◌*◌, ℕ, zero, suc, List, [], ◌∷◌, ◌++◌, take, drop, Bool}
+use Rattle.csi_orchestrator.proofs.Words.{not, length, map, refl, sym, ◌∙◌, ap, subst, arith, Some, None, filter}
+use Rattle.csi_orchestrator.proofs.Words.{slice_get, AllByRecursion, append-nil, IsAt, IndexMap, spare, index_map_len}
+use Rattle.csi_orchestrator.proofs.Words.{Catalog, Row, RowShown, is_row_forgotten, remembered, row_at_loss, IsLostAt}
+use Rattle.csi_orchestrator.proofs.Words.{rows_of, by_name, HasRoomForCalls, IsIndexed, row_shown}
+use Rattle.csi_orchestrator.proofs.Lemmas.{length-map, length-set, take_all, drop_all, none-some, get_or_from_slice_get}
+use Rattle.csi_orchestrator.proofs.Lemmas.{same-at, map_over_more-shown, each-at, each-filter, each-map, filter-of_map}
+use Rattle.csi_orchestrator.proofs.Lemmas.{filter-no_longer}
 use Rattle.csi_orchestrator.proofs.ListPlaces.{at-of_get}
 use Rattle.csi_orchestrator.proofs.RowsLost.{lost-name, lost-closed}
 use Rattle.csi_orchestrator.proofs.RowsUnderNames.{catalog_with, rows-set}

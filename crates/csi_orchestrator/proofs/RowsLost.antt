@@ -1,30 +1,14 @@
 -- What a row is and tells once a node was lost.
-use Rattle.std.proofs.Common.{◌≡◌, ℕ, List, [], ◌∷◌, map, Bool, true, false, cond, refl, sym, ◌∙◌, ap}
-use Rattle.std.specs.Prelude.{Option, Some, None, option_map, ◌||◌}
-use Rattle.std.specs.List.{AllByRecursion, list_any}
-use Rattle.std.proofs.lemmas.Bool.{false≢true}
-use Rattle.std.proofs.lemmas.Option.{none-some}
-use Rattle.csi_lists.proofs.Each.{each-map}
-use Rattle.csi_lists.proofs.Searches.{find-map, find-passes}
-use Rattle.csi_types.specs.Model.Same.{same_text}
-use Rattle.csi_types.proofs.Equality.{same_text-tells}
-use Rattle.csi_orchestrator.specs.declared.row.Goal.{Goal}
-use Rattle.csi_orchestrator.specs.declared.row.Goal.TheVariants.{Create, Use, Stop, Delete}
-use Rattle.csi_orchestrator.specs.declared.request.Usage.{Usage}
-use Rattle.csi_orchestrator.specs.declared.thing.Known.TheVariants.{No}
-use Rattle.csi_orchestrator.specs.declared.thing.Thing.{Thing}
-use Rattle.csi_orchestrator.specs.declared.thing.Thing.TheVariants.{Exists, Attached, Staged, Published}
-use Rattle.csi_orchestrator.specs.Model.Readings.{is_gone_with}
-use Rattle.csi_orchestrator.specs.Model.History.{Held}
+use Rattle.csi_orchestrator.proofs.Words.{◌≡◌, ℕ, List, [], ◌∷◌, map, Bool, true, false, cond, refl, sym, ◌∙◌, ap}
+use Rattle.csi_orchestrator.proofs.Words.{Option, Some, None, option_map, ◌||◌, AllByRecursion, list_any, same_text}
+use Rattle.csi_orchestrator.proofs.Words.{Goal, Create, Use, Stop, Delete, Usage, No, Thing, Exists, Attached, Staged}
+use Rattle.csi_orchestrator.proofs.Words.{Published, is_gone_with, Held, is_for_one_node, uses_as_second_writer}
+use Rattle.csi_orchestrator.proofs.Words.{NodeEntryShown, RowShown, node_entry_of, mark_in, publication_known, mark_of}
+use Rattle.csi_orchestrator.proofs.Words.{goal_in, held_on_node, held_at, is_use_at, wanted_row, stopped_goal}
+use Rattle.csi_orchestrator.proofs.Words.{entry_at_loss, stopped_at, row_at_loss, AreTargetsApart, closed}
+use Rattle.csi_orchestrator.proofs.Words.{is_so_elsewhere, AreNodesApart, IsUsable, MayBeWanted, IsSoundRow}
+use Rattle.csi_orchestrator.proofs.Lemmas.{false≢true, none-some, each-map, find-map, find-passes, same_text-tells}
 use Rattle.csi_orchestrator.specs.Model.History as wishes
-use Rattle.csi_orchestrator.specs.Model.Commands.{is_for_one_node, uses_as_second_writer}
-use Rattle.csi_orchestrator.specs.Model.Shown.{NodeEntryShown, RowShown, node_entry_of, mark_in, publication_known, mark_of, goal_in, held_on_node, held_at}
-use Rattle.csi_orchestrator.specs.Private.Beginning.{is_use_at}
-use Rattle.csi_orchestrator.specs.Private.RowChanges.{wanted_row, stopped_goal}
-use Rattle.csi_orchestrator.specs.Public.Beginning.{entry_at_loss, stopped_at, row_at_loss}
-use Rattle.csi_orchestrator.specs.Public.Shown.{AreTargetsApart, closed}
-use Rattle.csi_orchestrator.specs.Public.RowRefusals.{is_so_elsewhere}
-use Rattle.csi_orchestrator.specs.Public.Sound.{AreNodesApart, IsUsable, MayBeWanted, IsSoundRow}
 use Rattle.csi_orchestrator.proofs.EntryRules.{apart-map}
 use Rattle.csi_orchestrator.proofs.LossViews.{stopped, is_stopped}
 
@@ -71,15 +55,12 @@ with_lost node row = record row { node_entries = map (entry_at_loss node) row.no
 -- what is so of the row whatever its goal is, once its call is closed, and once a use of the node is stopped
 pub row-by : (P : RowShown → Type 0) (node : List ℕ) (row : RowShown) (goal : Option Goal) → (is_use_at node goal ≡ false → P (closed (with_lost node row)))
     → ((usage : Usage) → goal ≡ Some (Use usage) → same_text usage.node node ≡ true → P (record (with_lost node row) { goal = Some (Stop usage.node usage.target); open_call = None; tries = 0 })) → P (stopped_at node goal (with_lost node row))
-row-by P node row None other own = other refl
-row-by P node row (Some Create) other own = other refl
 row-by P node row (Some (Use usage)) other own = by (same_text usage.node node) refl
   where
     by : (b : Bool) → same_text usage.node node ≡ b → P (cond b (record (with_lost node row) { goal = Some (Stop usage.node usage.target); open_call = None; tries = 0 }) (closed (with_lost node row)))
     by true e = own usage refl e
     by false e = other e
-row-by P node row (Some (Stop there target)) other own = other refl
-row-by P node row (Some Delete) other own = other refl
+row-by P node row goal other own = other refl
 
 -- its name, and what is read of its entries
 pub lost-name : (node : List ℕ) (row : RowShown) → (row_at_loss node row).name ≡ row.name
@@ -201,31 +182,25 @@ pub lost-goal : (node : List ℕ) (row : RowShown) → goal_in (row_at_loss node
 lost-goal node row = by row.goal
   where
     by : (goal : Option Goal) → goal_in (stopped_at node goal (record row { goal = goal; node_entries = map (entry_at_loss node) row.node_entries })) ≡ stopped node (goal_in (record row { goal = goal }))
-    by None = refl
-    by (Some Create) = refl
     by (Some (Use usage)) = by_use (same_text usage.node node)
       where
         by_use : (b : Bool) → goal_in (cond b (let r : RowShown = record (with_lost node row) { goal = Some (Stop usage.node usage.target); open_call = None; tries = 0 } in r) (let r : RowShown = record (with_lost node row) { goal = Some (Use usage); open_call = None } in r))
             ≡ cond b (Some (wishes.Stop usage.node usage.target)) (Some (wishes.Use usage))
         by_use true = refl
         by_use false = refl
-    by (Some (Stop there target)) = refl
-    by (Some Delete) = refl
+    by goal = refl
 
 -- the tries of a use that is stopped begin anew
 pub lost-tries : (node : List ℕ) (row : RowShown) → (row_at_loss node row).tries ≡ cond (is_stopped node (goal_in row)) 0 row.tries
 lost-tries node row = by row.goal
   where
     by : (goal : Option Goal) → (stopped_at node goal (with_lost node row)).tries ≡ cond (is_stopped node (goal_in (record row { goal = goal }))) 0 row.tries
-    by None = refl
-    by (Some Create) = refl
     by (Some (Use usage)) = by_use (same_text usage.node node)
       where
         by_use : (b : Bool) → (cond b (let r : RowShown = record (with_lost node row) { goal = Some (Stop usage.node usage.target); open_call = None; tries = 0 } in r) (closed (with_lost node row))).tries ≡ cond b 0 row.tries
         by_use true = refl
         by_use false = refl
-    by (Some (Stop there target)) = refl
-    by (Some Delete) = refl
+    by goal = refl
 
 -- a row whose use of the node was stopped, once its entries lost the node
 pub stopped-row : (node : List ℕ) (row : RowShown) (entries : List NodeEntryShown) → entries ≡ map (entry_at_loss node) row.node_entries → (goal : Option Goal) → row.goal ≡ goal → is_use_at node goal ≡ true
@@ -234,10 +209,7 @@ stopped-row node row entries is (Some (Use usage)) e here result stops =
     stops (Use usage) refl ∙ ap (λ es. wanted_row (Stop usage.node usage.target) (record row { node_entries = es })) is
     ∙ sym (ap (λ g. stopped_at node g (with_lost node row)) e
     ∙ ap (λ b. cond b (let r : RowShown = record (with_lost node row) { goal = Some (Stop usage.node usage.target); open_call = None; tries = 0 } in r) (closed (with_lost node row))) here)
-stopped-row node row entries is None e here result stops = absurd (false≢true here)
-stopped-row node row entries is (Some Create) e here result stops = absurd (false≢true here)
-stopped-row node row entries is (Some (Stop there target)) e here result stops = absurd (false≢true here)
-stopped-row node row entries is (Some Delete) e here result stops = absurd (false≢true here)
+stopped-row node row entries is goal e here result stops = absurd (false≢true here)
 
 -- no call of it is open
 pub lost-closed : (node : List ℕ) (row : RowShown) → (row_at_loss node row).open_call ≡ None

@@ -1,31 +1,17 @@
 -- What becomes of the rows where an input comes. What is defined input by input (`RowMoves.antt`) is opened here alone.
-use Rattle.std.proofs.Common.{◌≡◌, ◌⊎◌, ℕ, List, refl, inl, inr}
-use Rattle.std.specs.Prelude.{Option, Some, None, Result, Ok, Err}
-use Rattle.csi_types.specs.declared.call.Kind.{Kind}
-use Rattle.csi_types.specs.declared.frame.Body.{Body}
+use Rattle.csi_orchestrator.proofs.Words.{◌≡◌, ◌⊎◌, ℕ, List, refl, inl, inr, Option, Some, None, Result, Ok, Err, Kind}
+use Rattle.csi_orchestrator.proofs.Words.{Body, Reply, Frame, same_text, IsAmong, Ignored, OrchFault, Step, Arguments}
+use Rattle.csi_orchestrator.proofs.Words.{Input, ToCreate, ToUse, ToStop, ToDelete, TimesOut, Comes, Restarts, Loses}
+use Rattle.csi_orchestrator.proofs.Words.{Answer, Sends, Hears, Restarted, GivenUp, hears, RowShown, OrchestratorParts}
+use Rattle.csi_orchestrator.proofs.Words.{row_of, open_in_row, restart_refusal, restarted_parts, loss_refusal}
+use Rattle.csi_orchestrator.proofs.Words.{parts_at_loss, MovedRows, moved_rows, IsSoundRow, AreSoundRows, IsDueSuccess}
+use Rattle.csi_orchestrator.proofs.Words.{new_row, outgoing_frame, parts_after, all_rows_moved, steps_at, creates}
+use Rattle.csi_orchestrator.proofs.Words.{is_issued_as, row_replied, step_heard, hears_reply, receives, moved_unless}
+use Rattle.csi_orchestrator.proofs.Words.{row_moves, first_fault, MovedRow, row_sends_due, row_unless, row_step}
+use Rattle.csi_orchestrator.proofs.Lemmas.{each_of, among-find, find-passes}
 use Rattle.csi_types.specs.declared.frame.Body.TheVariants as bodies
-use Rattle.csi_types.specs.declared.reply.Reply.{Reply}
-use Rattle.csi_types.specs.Model.Frame.{Frame}
-use Rattle.csi_types.specs.Model.Same.{same_text}
-use Rattle.csi_lists.specs.Model.Members.{IsAmong}
-use Rattle.csi_lists.proofs.Members.{each_of, among-find}
-use Rattle.csi_lists.proofs.Searches.{find-passes}
-use Rattle.csi_orchestrator.specs.declared.fault.Heard.TheVariants.{Ignored}
-use Rattle.csi_orchestrator.specs.declared.fault.OrchFault.{OrchFault}
 use Rattle.csi_orchestrator.specs.declared.fault.OrchFault.TheVariants as faults
-use Rattle.csi_orchestrator.specs.declared.step.Step.{Step}
 use Rattle.csi_orchestrator.specs.declared.step.Step.TheVariants as steps
-use Rattle.csi_orchestrator.specs.Model.History.{Arguments}
-use Rattle.csi_orchestrator.specs.Model.Moves.{Input, ToCreate, ToUse, ToStop, ToDelete, TimesOut, Comes, Restarts, Loses, Answer, Sends, Hears, Restarted, GivenUp, hears}
-use Rattle.csi_orchestrator.specs.Model.Shown.{RowShown, OrchestratorParts, row_of, open_in_row}
-use Rattle.csi_orchestrator.specs.Public.Beginning.{restart_refusal, restarted_parts, loss_refusal, parts_at_loss}
-use Rattle.csi_orchestrator.specs.Public.RowMoves.{MovedRows, moved_rows}
-use Rattle.csi_orchestrator.specs.Public.Sound.{IsSoundRow, AreSoundRows}
-use Rattle.csi_orchestrator.specs.Private.Hearing.{IsDueSuccess}
-use Rattle.csi_orchestrator.specs.Private.RowChanges.{new_row}
-use Rattle.csi_orchestrator.specs.Private.RowMoves.{outgoing_frame, parts_after, all_rows_moved, steps_at, creates, is_issued_as, row_replied, step_heard, hears_reply, receives, moved_unless, row_moves}
-use Rattle.csi_orchestrator.specs.Private.RowRefusals.{first_fault}
-use Rattle.csi_orchestrator.specs.Private.RowSteps.{MovedRow, row_sends_due, row_unless, row_step}
 use Rattle.csi_orchestrator.proofs.StepsSound.{heard-fits}
 
 -- a step that no reply brings

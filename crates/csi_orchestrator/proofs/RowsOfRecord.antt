@@ -1,18 +1,10 @@
 -- Rows without open calls, put into a catalog one after the other.
-use Rattle.std.proofs.Common.{◌≡◌, ◌<◌, ℕ, zero, suc, get_or, arith, List, [], ◌∷◌, ◌++◌, false, length, map, sym, ◌∙◌, subst}
-use Rattle.std.specs.Prelude.{Option, Some, None, position}
-use Rattle.std.specs.List.{AllByRecursion}
-use Rattle.csi_lists.specs.Model.Members.{EachTwo}
-use Rattle.csi_types.specs.Model.Same.{same_text}
-use Rattle.csi_orchestrator.specs.declared.catalog.Catalog.{Catalog}
-use Rattle.csi_orchestrator.specs.declared.row.OpenCall.{OpenCall}
-use Rattle.csi_orchestrator.specs.declared.row.Row.{Row}
-use Rattle.csi_orchestrator.specs.Model.Shown.{RowShown}
-use Rattle.csi_orchestrator.specs.Public.Restored.{IsRestorable}
-use Rattle.csi_orchestrator.specs.Public.Shown.{row_shown}
-use Rattle.csi_orchestrator.specs.Private.Catalog.{IsNextFor}
+use Rattle.csi_orchestrator.proofs.Words.{◌≡◌, ◌<◌, ℕ, zero, suc, get_or, arith, List, [], ◌∷◌, ◌++◌, false, length}
+use Rattle.csi_orchestrator.proofs.Words.{map, sym, ◌∙◌, subst, Option, Some, None, position, AllByRecursion, EachTwo}
+use Rattle.csi_orchestrator.proofs.Words.{same_text, Catalog, OpenCall, Row, RowShown, IsRestorable, row_shown}
+use Rattle.csi_orchestrator.proofs.Words.{IsNextFor}
+use Rattle.csi_orchestrator.proofs.Lemmas.{position-none}
 use Rattle.csi_orchestrator.proofs.SplitLists.{each-right, two-there}
-use Rattle.csi_lists.proofs.Places.{position-none}
 
 -- no call isn't some call
 none-some : {X : Type 0} (x : X) → None ≡ Some x → ⊥

@@ -1,13 +1,8 @@
 -- Why the rows of every orchestrator, once their open calls are given up, keep the rules of rows.
-use Rattle.std.proofs.Common.{◌≤◌, ℕ, List, [], ◌∷◌, map, refl, sym, subst}
-use Rattle.std.specs.List.{AllByRecursion}
-use Rattle.std.proofs.lemmas.List.{length-map}
-use Rattle.csi_orchestrator.specs.Model.Shown.{RowShown, OrchestratorParts}
-use Rattle.csi_orchestrator.specs.Public.Bounds.{AreWithin}
-use Rattle.csi_orchestrator.specs.Public.Restored.{IsRestorable, AreRestorable}
-use Rattle.csi_orchestrator.specs.Public.Shown.{closed}
-use Rattle.csi_orchestrator.specs.Public.Sound.{IsSoundRow, AreSoundParts}
-use Rattle.csi_orchestrator.specs.Public.Steady.{AreSteadyRows}
+use Rattle.csi_orchestrator.proofs.Words.{◌≤◌, ℕ, List, [], ◌∷◌, map, refl, sym, subst, AllByRecursion, RowShown}
+use Rattle.csi_orchestrator.proofs.Words.{OrchestratorParts, AreWithin, IsRestorable, AreRestorable, closed, IsSoundRow}
+use Rattle.csi_orchestrator.proofs.Words.{AreSoundParts, AreSteadyRows}
+use Rattle.csi_orchestrator.proofs.Lemmas.{length-map}
 use Rattle.csi_orchestrator.proofs.EntryRules.{apart-map}
 use Rattle.csi_orchestrator.proofs.KeptSteps.{closed-kept}
 use Rattle.csi_orchestrator.proofs.RowRules.{kept-closed}

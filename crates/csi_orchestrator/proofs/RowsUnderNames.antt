@@ -1,28 +1,17 @@
 -- The rows of a catalog under their names: what a look-up finds, and what stays so after a row changed or came.
-use Rattle.std.proofs.Common.{◌≡◌, ◌<◌, ◌≤◌, ◌+◌, ◌⊎◌, inl, inr, ℕ, zero, suc, Bool, true, false, cond, not, List, [], ◌∷◌, ◌++◌, length, get_or, map, set, refl, sym, ◌∙◌, ap, subst, arith}
-use Rattle.std.specs.Prelude.{Option, Some, None, option_map, find, position, slice_get, nat_lt, nat_eq}
-use Rattle.std.specs.List.{position_or_len}
-use Rattle.std.specs.Cmp.Lexicographic.{pointwise}
-use Rattle.std.specs.Map.{keys_of, values_of, lookup}
-use Rattle.std.proofs.lemmas.List.{length-map, length-set, length_push, map_push}
-use Rattle.std.proofs.lemmas.Option.{none-some, get_or_from_slice_get}
-use Rattle.csi_lists.proofs.Searches.{find-no_place}
-use Rattle.indexmap.proofs.CallerLemmas.{insert_entry-new, index_map_len-with_value_at}
-use Rattle.indexmap.specs.IndexMap.{IndexMap, values, get, spare, index_map_len, with_value_at, insert_entry}
+use Rattle.csi_orchestrator.proofs.Words.{◌≡◌, ◌<◌, ◌≤◌, ◌+◌, ◌⊎◌, inl, inr, ℕ, zero, suc, Bool, true, false, cond, not}
+use Rattle.csi_orchestrator.proofs.Words.{List, [], ◌∷◌, ◌++◌, length, get_or, map, set, refl, sym, ◌∙◌, ap, subst}
+use Rattle.csi_orchestrator.proofs.Words.{arith, Option, Some, None, option_map, find, position, slice_get, nat_lt}
+use Rattle.csi_orchestrator.proofs.Words.{nat_eq, position_or_len, pointwise, keys_of, values_of, lookup, IndexMap}
+use Rattle.csi_orchestrator.proofs.Words.{values, get, spare, index_map_len, with_value_at, insert_entry, IsAt}
+use Rattle.csi_orchestrator.proofs.Words.{same_text, Number, OpenCall, Outgoing, Row, Catalog, rows_of, by_name}
+use Rattle.csi_orchestrator.proofs.Words.{place_noted, HasRoomForCalls, HasFewNotes, IsIndexed, AreUpTo, IsReady}
+use Rattle.csi_orchestrator.proofs.Words.{IsNextFor, IsClosedAt, AreNotedBefore, outgoing_call_number, IsNumberedAfter}
+use Rattle.csi_orchestrator.proofs.Words.{RowShown, OrchestratorParts, row_shown, without_call}
+use Rattle.csi_orchestrator.proofs.Lemmas.{length-map, length-set, length_push, map_push, none-some}
+use Rattle.csi_orchestrator.proofs.Lemmas.{get_or_from_slice_get, find-no_place, insert_entry-new}
+use Rattle.csi_orchestrator.proofs.Lemmas.{index_map_len-with_value_at, same-at}
 use Rattle.indexmap.specs.Layout.{set_value_at}
-use Rattle.csi_lists.specs.Public.Places.{IsAt}
-use Rattle.csi_lists.proofs.Places.{same-at}
-use Rattle.csi_types.specs.Model.Same.{same_text}
-use Rattle.csi_types.specs.declared.number.Number.{Number}
-use Rattle.csi_orchestrator.specs.declared.row.OpenCall.{OpenCall}
-use Rattle.csi_orchestrator.specs.declared.sending.Outgoing.{Outgoing}
-use Rattle.csi_orchestrator.specs.declared.row.Row.{Row}
-use Rattle.csi_orchestrator.specs.declared.catalog.Catalog.{Catalog}
-use Rattle.csi_orchestrator.specs.Public.Catalog.{rows_of, by_name, place_noted, HasRoomForCalls, HasFewNotes, IsIndexed, AreUpTo}
-use Rattle.csi_orchestrator.specs.Private.Catalog.{IsReady, IsNextFor, IsClosedAt, AreNotedBefore, outgoing_call_number, IsNumberedAfter}
-use Rattle.csi_orchestrator.specs.Model.Shown.{RowShown, OrchestratorParts}
-use Rattle.csi_orchestrator.specs.Public.Shown.{row_shown}
-use Rattle.csi_orchestrator.specs.Private.Shown.{without_call}
 use Rattle.csi_orchestrator.proofs.ListPlaces.{at-of_get, at-within, at-set, at-set_same, at-set_other, at-push}
 use Rattle.csi_orchestrator.proofs.TextLists.{same_text-flip}
 

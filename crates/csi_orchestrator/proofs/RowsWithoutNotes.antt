@@ -1,13 +1,8 @@
 -- Where rows note nothing, no part of them does.
-use Rattle.std.proofs.Common.{◌≡◌, ◌<◌, ℕ, zero, suc, List, [], ◌∷◌, ◌++◌, length, get_or, map, refl, sym, ◌∙◌, arith}
-use Rattle.std.specs.List.{flat_map}
-use Rattle.csi_lists.proofs.Members.{empty-where}
-use Rattle.csi_orchestrator.specs.declared.thing.Known.TheVariants.{No}
-use Rattle.csi_orchestrator.specs.declared.thing.Thing.{Thing}
-use Rattle.csi_orchestrator.specs.declared.thing.Known.{Known}
-use Rattle.csi_orchestrator.specs.Public.Sound.{AreSoundRows}
-use Rattle.csi_orchestrator.specs.Private.Listing.{known_by_rows, noted_in}
-use Rattle.csi_orchestrator.specs.Model.Shown.{RowShown}
+use Rattle.csi_orchestrator.proofs.Words.{◌≡◌, ◌<◌, ℕ, zero, suc, List, [], ◌∷◌, ◌++◌, length, get_or, map, refl, sym}
+use Rattle.csi_orchestrator.proofs.Words.{◌∙◌, arith, flat_map, No, Thing, Known, AreSoundRows, known_by_rows, noted_in}
+use Rattle.csi_orchestrator.proofs.Words.{RowShown}
+use Rattle.csi_orchestrator.proofs.Lemmas.{empty-where}
 use Rattle.csi_orchestrator.proofs.ThingsNoted.{rows-list}
 
 -- where lists that are joined have nothing, neither has

@@ -1,20 +1,9 @@
 -- Why the rows stay as an orchestrator's type keeps them.
-use Rattle.std.proofs.Common.{◌≡◌, List, Bool, map, refl, subst}
-use Rattle.std.specs.Prelude.{find, false, not, Some, Result, Ok, Err}
-use Rattle.csi_types.specs.Model.Same.{same_text}
-use Rattle.csi_lists.proofs.Members.{each_of, among-find}
-use Rattle.csi_lists.proofs.Each.{each-map, each-filter}
-use Rattle.csi_lists.proofs.Pairs.{two-filter}
-use Rattle.csi_orchestrator.specs.declared.fault.OrchFault.{OrchFault}
-use Rattle.csi_orchestrator.specs.Model.Moves.{Input}
-use Rattle.csi_orchestrator.specs.Model.Shown.{RowShown, OrchestratorParts}
-use Rattle.csi_orchestrator.specs.Public.Shown.{closed}
-use Rattle.csi_orchestrator.specs.Public.Beginning.{is_row_forgotten, remembered, row_at_loss}
-use Rattle.csi_orchestrator.specs.Private.RowChanges.{new_row}
-use Rattle.csi_orchestrator.specs.Public.RowMoves.{MovedRows, moved_rows}
-use Rattle.csi_orchestrator.specs.Private.RowMoves.{put}
-use Rattle.csi_orchestrator.specs.Public.Sound.{IsSoundRow, AreSoundRows}
-use Rattle.csi_orchestrator.specs.Private.Sound.{RowsStaySound}
+use Rattle.csi_orchestrator.proofs.Words.{◌≡◌, List, Bool, map, refl, subst, find, false, not, Some, Result, Ok, Err}
+use Rattle.csi_orchestrator.proofs.Words.{same_text, OrchFault, Input, RowShown, OrchestratorParts, closed}
+use Rattle.csi_orchestrator.proofs.Words.{is_row_forgotten, remembered, row_at_loss, new_row, MovedRows, moved_rows}
+use Rattle.csi_orchestrator.proofs.Words.{put, IsSoundRow, AreSoundRows, RowsStaySound}
+use Rattle.csi_orchestrator.proofs.Lemmas.{each_of, among-find, each-map, each-filter, two-filter}
 use Rattle.csi_orchestrator.proofs.EntryRules.{each-put, apart-put, apart-map}
 use Rattle.csi_orchestrator.proofs.RowRules.{kept-closed}
 use Rattle.csi_orchestrator.proofs.RowsLost.{lost-name, lost-sound}

@@ -1,32 +1,14 @@
 -- Why a row whose due call is sent, or whose goal is dropped, tells what the history tells then.
-use Rattle.std.proofs.Common.{◌≡◌, ℕ, List, ◌∷◌, true, false, refl, sym, ◌∙◌, ap, subst}
-use Rattle.std.specs.Prelude.{Option, Some, None, Result, Ok, Err}
-use Rattle.std.proofs.lemmas.Bool.{false≢true, and_parts}
-use Rattle.csi_types.specs.declared.number.Number.{Number}
-use Rattle.csi_types.specs.Model.Call.{kind_of}
-use Rattle.csi_types.specs.Model.Frame.{Frame}
-use Rattle.csi_types.specs.Model.Same.{same_text}
-use Rattle.csi_types.proofs.Equality.{same_text-tells}
-use Rattle.csi_orchestrator.specs.declared.fault.OrchFault.{OrchFault}
-use Rattle.csi_orchestrator.specs.declared.thing.Thing.TheVariants.{Attached}
-use Rattle.csi_orchestrator.specs.Model.Thing.{Issued, touches, is_no, is_doing}
-use Rattle.csi_orchestrator.specs.Model.History.{Item, Sent, Noted, History, with_items}
-use Rattle.csi_orchestrator.specs.Model.Readings.{open_call, last_number}
-use Rattle.csi_orchestrator.specs.Model.WellFormed.{IsNextNumber, IsWellFormed}
-use Rattle.csi_orchestrator.specs.Model.Commands.{next_number}
-use Rattle.csi_orchestrator.specs.Model.Due.{Due, due_call}
-use Rattle.csi_orchestrator.specs.Public.Guards.{MayIssue}
-use Rattle.csi_orchestrator.specs.Model.Moves.{Answer, Moved, sent_as, send_due}
-use Rattle.csi_orchestrator.specs.Model.Agrees.{OrchestratorView, Agrees}
-use Rattle.csi_orchestrator.specs.Private.Following.{after_sent, after_noted, DetachesSomething}
-use Rattle.csi_orchestrator.specs.Model.Shown.{RowShown, OrchestratorParts, node_entry_of, mark_in, orchestrator_view, Shows}
-use Rattle.csi_orchestrator.specs.Public.RowDue.{due_in}
-use Rattle.csi_orchestrator.specs.Private.RowChanges.{row_once_sent, dropped_row}
-use Rattle.csi_orchestrator.specs.Private.RowSteps.{outgoing_by, row_moved, row_sends_due}
-use Rattle.csi_orchestrator.specs.Public.RowMoves.{MovedRows}
-use Rattle.csi_orchestrator.specs.Private.RowMoves.{put, all_rows_moved}
-use Rattle.csi_orchestrator.specs.Public.Sound.{AreGuarded}
-use Rattle.csi_orchestrator.specs.Private.Sound.{MovesAgree}
+use Rattle.csi_orchestrator.proofs.Words.{◌≡◌, ℕ, List, ◌∷◌, true, false, refl, sym, ◌∙◌, ap, subst, Option, Some, None}
+use Rattle.csi_orchestrator.proofs.Words.{Result, Ok, Err, Number, kind_of, Frame, same_text, OrchFault, Attached}
+use Rattle.csi_orchestrator.proofs.Words.{Issued, touches, is_no, is_doing, Item, Sent, Noted, History, with_items}
+use Rattle.csi_orchestrator.proofs.Words.{open_call, last_number, IsNextNumber, IsWellFormed, next_number, Due}
+use Rattle.csi_orchestrator.proofs.Words.{due_call, MayIssue, Answer, Moved, sent_as, send_due, OrchestratorView}
+use Rattle.csi_orchestrator.proofs.Words.{Agrees, after_sent, after_noted, DetachesSomething, RowShown}
+use Rattle.csi_orchestrator.proofs.Words.{OrchestratorParts, node_entry_of, mark_in, orchestrator_view, Shows, due_in}
+use Rattle.csi_orchestrator.proofs.Words.{row_once_sent, dropped_row, outgoing_by, row_moved, row_sends_due, MovedRows}
+use Rattle.csi_orchestrator.proofs.Words.{put, all_rows_moved, AreGuarded, MovesAgree}
+use Rattle.csi_orchestrator.proofs.Lemmas.{false≢true, and_parts, same_text-tells}
 use Rattle.csi_orchestrator.proofs.DueCalls.{due-of-row}
 use Rattle.csi_orchestrator.proofs.DueCases.{IsDueFor, due-cases, ToAttach, ToDetach}
 use Rattle.csi_orchestrator.proofs.ViewsFollow.{sent-follows, noted-follows}

@@ -1,18 +1,12 @@
 -- What is read of a history since an item that ends a thing or forgets a name: no open call is older.
-use Rattle.std.proofs.Common.{◌≡◌, ℕ, List, [], ◌∷◌, ◌++◌, Bool, true, false, cond, refl, sym, ◌∙◌, ap, subst, inl, inr}
-use Rattle.std.specs.Prelude.{Option, Some, find, filter}
-use Rattle.std.proofs.lemmas.Option.{none-some}
+use Rattle.csi_orchestrator.proofs.Words.{◌≡◌, ℕ, List, [], ◌∷◌, ◌++◌, Bool, true, false, cond, refl, sym, ◌∙◌, ap}
+use Rattle.csi_orchestrator.proofs.Words.{subst, inl, inr, Option, Some, find, filter, IsAmong, Number, Status}
+use Rattle.csi_orchestrator.proofs.Words.{same_text, Thing, Issued, Item, Started, Lost, Forgotten, Sent, Accepted}
+use Rattle.csi_orchestrator.proofs.Words.{Closed, Noted, since, is_forgetting, ends, issued_by, issued_in, open_in}
+use Rattle.csi_orchestrator.proofs.Words.{AreWellFormed}
+use Rattle.csi_orchestrator.proofs.Lemmas.{none-some, among-append, some-found, in_filter}
 use Rattle.std.proofs.lemmas.List.Elements.{filter_map-append, filter-append}
-use Rattle.csi_lists.specs.Model.Members.{IsAmong}
-use Rattle.csi_lists.proofs.Members.{among-append, some-found, in_filter}
-use Rattle.csi_types.specs.declared.number.Number.{Number}
-use Rattle.csi_types.specs.declared.status.Status.{Status}
-use Rattle.csi_types.specs.Model.Same.{same_text}
-use Rattle.csi_orchestrator.specs.declared.thing.Thing.{Thing}
-use Rattle.csi_orchestrator.specs.Model.Thing.{Issued}
-use Rattle.csi_orchestrator.specs.Model.History.{Goal, Item, Started, Lost, Forgotten, Sent, Accepted, Closed, Noted}
-use Rattle.csi_orchestrator.specs.Model.Readings.{since, is_forgetting, ends, issued_by, issued_in, open_in}
-use Rattle.csi_orchestrator.specs.Model.WellFormed.{AreWellFormed}
+use Rattle.csi_orchestrator.specs.Model.History.{Goal}
 use Rattle.csi_orchestrator.proofs.Numbers.{unless-some, unused-closed}
 
 -- only where a session begins

@@ -1,11 +1,7 @@
 -- Searches and changes in a list at one of its entries, and what holds of the parts of a list.
-use Rattle.std.proofs.Common.{◌≡◌, ℕ, List, [], ◌∷◌, ◌++◌, Bool, false, cond, refl, ◌∙◌, ap}
-use Rattle.std.specs.Prelude.{Some, None, find, ◌||◌}
-use Rattle.std.specs.List.{AllByRecursion, list_any}
-use Rattle.csi_lists.specs.Model.Members.{EachTwo}
-use Rattle.csi_lists.proofs.Searches.{find-missed}
-use Rattle.csi_types.specs.Model.Same.{same_text}
-use Rattle.csi_orchestrator.specs.Private.Keyed.{put_by}
+use Rattle.csi_orchestrator.proofs.Words.{◌≡◌, ℕ, List, [], ◌∷◌, ◌++◌, Bool, false, cond, refl, ◌∙◌, ap, Some, None}
+use Rattle.csi_orchestrator.proofs.Words.{find, ◌||◌, AllByRecursion, list_any, EachTwo, same_text, put_by}
+use Rattle.csi_orchestrator.proofs.Lemmas.{find-missed}
 
 -- ---- searches and changes
 

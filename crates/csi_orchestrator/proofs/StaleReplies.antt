@@ -1,27 +1,12 @@
 -- Whether a reply says of an open call that it is stale: the rows and the history tell the same.
-use Rattle.std.proofs.Common.{◌≡◌, ℕ, List, Bool, true, map, refl, sym, ◌∙◌, ap}
-use Rattle.std.specs.Prelude.{Option, Some, None, is_some, position, option_and_then, ◌&&◌}
-use Rattle.std.proofs.lemmas.Bool.{false≢true}
-use Rattle.csi_types.specs.declared.call.Kind.{Kind}
-use Rattle.csi_types.specs.declared.call.Party.{Party}
-use Rattle.csi_types.specs.declared.frame.Body.{Body}
+use Rattle.csi_orchestrator.proofs.Words.{◌≡◌, ℕ, List, Bool, true, map, refl, sym, ◌∙◌, ap, Option, Some, None}
+use Rattle.csi_orchestrator.proofs.Words.{is_some, position, option_and_then, ◌&&◌, Kind, Party, Body, Number, Reply}
+use Rattle.csi_orchestrator.proofs.Words.{Frame, Row, OrchestratorCore, Issued, History, IsWellFormed, RowShown}
+use Rattle.csi_orchestrator.proofs.Words.{OrchestratorParts, open_in_row, Shows, rows_of, orchestrator_parts_shown}
+use Rattle.csi_orchestrator.proofs.Words.{row_shown, AreSoundRows, is_issued_as, row_replied}
+use Rattle.csi_orchestrator.proofs.Lemmas.{false≢true, find-passes}
 use Rattle.csi_types.specs.declared.frame.Body.TheVariants as bodies
-use Rattle.csi_types.specs.declared.number.Number.{Number}
-use Rattle.csi_types.specs.declared.reply.Reply.{Reply}
-use Rattle.csi_types.specs.Model.Frame.{Frame}
-use Rattle.csi_lists.proofs.Searches.{find-passes}
-use Rattle.csi_orchestrator.specs.declared.row.Row.{Row}
-use Rattle.csi_orchestrator.specs.declared.state.OrchestratorCore.{OrchestratorCore}
-use Rattle.csi_orchestrator.specs.Model.Thing.{Issued}
-use Rattle.csi_orchestrator.specs.Model.History.{History}
-use Rattle.csi_orchestrator.specs.Model.WellFormed.{IsWellFormed}
-use Rattle.csi_orchestrator.specs.Model.Shown.{RowShown, OrchestratorParts, open_in_row, Shows}
-use Rattle.csi_orchestrator.specs.Public.Catalog.{rows_of}
-use Rattle.csi_orchestrator.specs.Public.CoreParts.{orchestrator_parts_shown}
-use Rattle.csi_orchestrator.specs.Public.Shown.{row_shown}
-use Rattle.csi_orchestrator.specs.Public.Sound.{AreSoundRows}
 use Rattle.csi_orchestrator.specs.Public.Stale.{is_stale_reply, is_stale_body, call_answered}
-use Rattle.csi_orchestrator.specs.Private.RowMoves.{is_issued_as, row_replied}
 use Rattle.csi_orchestrator.specs.Private.Stale.{tells_stale}
 use Rattle.csi_orchestrator.proofs.ChangedEntries.{find-place, find-none_placed}
 use Rattle.csi_orchestrator.proofs.ListPlaces.{get-of_at}

@@ -1,20 +1,11 @@
 -- Why each thing that an orchestrator does may be done.
-use Rattle.std.proofs.Common.{◌≡◌, ℕ, List, [], ◌∷◌, ◌++◌, refl}
-use Rattle.std.specs.Prelude.{Result, Ok, Err}
-use Rattle.csi_lists.proofs.Each.{each-weaker}
-use Rattle.csi_types.specs.declared.number.Number.{Number}
-use Rattle.csi_orchestrator.specs.declared.fault.OrchFault.{OrchFault}
-use Rattle.csi_orchestrator.specs.Model.History.{Item, Started, Lost, Forgotten, Sent, Accepted, Closed, Noted, History}
-use Rattle.csi_orchestrator.specs.Model.WellFormed.{AreWellFormed, IsWellFormed}
-use Rattle.csi_orchestrator.specs.Model.Moves.{Input, Moved, moves}
-use Rattle.csi_orchestrator.specs.Public.Moves.{moved_to}
-use Rattle.csi_orchestrator.specs.Model.Shown.{OrchestratorParts, Shows}
-use Rattle.csi_orchestrator.specs.Public.Restored.{IsRestorable}
-use Rattle.csi_orchestrator.specs.Public.Sound.{IsSoundRow, AreSoundRows, AreGuarded}
-use Rattle.csi_orchestrator.specs.Public.Steady.{IsSteadyRowIf, AreSteadyRowsIf}
-use Rattle.csi_orchestrator.specs.Public.RowMoves.{MovedRows}
-use Rattle.csi_orchestrator.specs.Private.RowMoves.{row_moves}
-use Rattle.csi_orchestrator.specs.Public.Steps.{IsReached, Begins, Opens, GoesOn, MayDoAll, AreStepwise, MovesLaw}
+use Rattle.csi_orchestrator.proofs.Words.{◌≡◌, ℕ, List, [], ◌∷◌, ◌++◌, refl, Result, Ok, Err, Number, OrchFault, Item}
+use Rattle.csi_orchestrator.proofs.Words.{Started, Lost, Forgotten, Sent, Accepted, Closed, Noted, History}
+use Rattle.csi_orchestrator.proofs.Words.{AreWellFormed, IsWellFormed, Input, Moved, moves, moved_to, OrchestratorParts}
+use Rattle.csi_orchestrator.proofs.Words.{Shows, IsRestorable, IsSoundRow, AreSoundRows, AreGuarded, IsSteadyRowIf}
+use Rattle.csi_orchestrator.proofs.Words.{AreSteadyRowsIf, MovedRows, row_moves, IsReached, Begins, Opens, GoesOn}
+use Rattle.csi_orchestrator.proofs.Words.{MayDoAll, AreStepwise, MovesLaw}
+use Rattle.csi_orchestrator.proofs.Lemmas.{each-weaker}
 use Rattle.csi_orchestrator.proofs.AddedItems.{TakesReplies, ArePassing, AreAdded, moves-add, stays-formed}
 use Rattle.csi_orchestrator.proofs.SendingAgrees.{Guards, Tells}
 use Rattle.csi_orchestrator.proofs.KeptRows.{any-fit, steady-any, rows-stay-steady-if}

@@ -1,39 +1,20 @@
 -- Why a row that takes a step stays as an orchestrator's type keeps it, and what is due for it may be wanted.
-use Rattle.std.proofs.Common.{◌≡◌, ℕ, List, [], ◌∷◌, Bool, true, false, cond, not, refl, sym, ◌∙◌, ap, subst}
-use Rattle.std.specs.Prelude.{Option, Some, None, is_some, is_none, Result, Ok, Err}
-use Rattle.std.specs.List.{AllByRecursion, list_any}
-use Rattle.std.proofs.lemmas.Bool.{false≢true, or_parts}
-use Rattle.csi_types.specs.declared.call.Kind.{Kind}
-use Rattle.csi_types.specs.declared.call.Party.{Party}
-use Rattle.csi_types.specs.declared.number.Number.{Number}
-use Rattle.csi_types.specs.declared.reply.Reply.{Reply}
-use Rattle.csi_types.specs.Model.Call.{kind_of}
-use Rattle.csi_types.specs.Model.Reply.{is_ok_status}
-use Rattle.csi_types.specs.Model.Same.{same_text, has_capability}
-use Rattle.csi_lists.proofs.Options.{none-from_is_some}
-use Rattle.csi_orchestrator.specs.declared.fault.OrchFault.{OrchFault}
+use Rattle.csi_orchestrator.proofs.Words.{◌≡◌, ℕ, List, [], ◌∷◌, Bool, true, false, cond, not, refl, sym, ◌∙◌, ap}
+use Rattle.csi_orchestrator.proofs.Words.{subst, Option, Some, None, is_some, is_none, Result, Ok, Err, AllByRecursion}
+use Rattle.csi_orchestrator.proofs.Words.{list_any, Kind, Party, Number, Reply, kind_of, is_ok_status, same_text}
+use Rattle.csi_orchestrator.proofs.Words.{has_capability, OrchFault, Goal, Create, Use, Step, Known, Yes, No, Maybe}
+use Rattle.csi_orchestrator.proofs.Words.{is_yes, is_no, Arguments, next_number, is_for_one_node, uses_as_second_writer}
+use Rattle.csi_orchestrator.proofs.Words.{Due, kind_due, IsDueSuccess, NodeEntryShown, RowShown, node_entry_of}
+use Rattle.csi_orchestrator.proofs.Words.{open_in_row, closed, due_in, known_by_success_of, wanted_row, stopped_goal}
+use Rattle.csi_orchestrator.proofs.Words.{new_row, has_elsewhere, is_entry_otherwise, use_refusal}
+use Rattle.csi_orchestrator.proofs.Words.{is_attached_somewhere, step_refusal, late_refusal, MovedRow, outgoing_by}
+use Rattle.csi_orchestrator.proofs.Words.{row_moved, row_sends_due, row_rests, row_unless, is_step_met, waits}
+use Rattle.csi_orchestrator.proofs.Words.{is_given_up, timed_out, failed, row_before_call, row_step, is_issued_as}
+use Rattle.csi_orchestrator.proofs.Words.{step_heard, MayBeWanted, IsSoundRow}
+use Rattle.csi_orchestrator.proofs.Lemmas.{false≢true, or_parts, none-from_is_some}
 use Rattle.csi_orchestrator.specs.declared.fault.OrchFault.TheVariants as faults
-use Rattle.csi_orchestrator.specs.declared.row.Goal.{Goal}
-use Rattle.csi_orchestrator.specs.declared.row.Goal.TheVariants.{Create, Use}
-use Rattle.csi_orchestrator.specs.declared.step.Step.{Step}
 use Rattle.csi_orchestrator.specs.declared.step.Step.TheVariants as steps
-use Rattle.csi_orchestrator.specs.declared.thing.Known.{Known}
-use Rattle.csi_orchestrator.specs.declared.thing.Known.TheVariants.{Yes, No, Maybe}
-use Rattle.csi_orchestrator.specs.Model.Thing.{is_yes, is_no}
-use Rattle.csi_orchestrator.specs.Model.History.{Arguments, Usage}
-use Rattle.csi_orchestrator.specs.Model.Commands.{next_number, is_for_one_node, uses_as_second_writer}
-use Rattle.csi_orchestrator.specs.Model.Due.{Due}
-use Rattle.csi_orchestrator.specs.Private.Found.{kind_due}
-use Rattle.csi_orchestrator.specs.Private.Hearing.{IsDueSuccess}
-use Rattle.csi_orchestrator.specs.Model.Shown.{NodeEntryShown, RowShown, node_entry_of, open_in_row}
-use Rattle.csi_orchestrator.specs.Public.Shown.{closed}
-use Rattle.csi_orchestrator.specs.Public.RowDue.{due_in}
-use Rattle.csi_orchestrator.specs.Private.RowChanges.{known_by_success_of, wanted_row, stopped_goal, new_row}
-use Rattle.csi_orchestrator.specs.Public.RowRefusals.{has_elsewhere}
-use Rattle.csi_orchestrator.specs.Private.RowRefusals.{is_entry_otherwise, use_refusal, is_attached_somewhere, step_refusal, late_refusal}
-use Rattle.csi_orchestrator.specs.Private.RowSteps.{MovedRow, outgoing_by, row_moved, row_sends_due, row_rests, row_unless, is_step_met, waits, is_given_up, timed_out, failed, row_before_call, row_step}
-use Rattle.csi_orchestrator.specs.Private.RowMoves.{is_issued_as, step_heard}
-use Rattle.csi_orchestrator.specs.Public.Sound.{MayBeWanted, IsSoundRow}
+use Rattle.csi_orchestrator.specs.Model.History.{Usage}
 use Rattle.csi_orchestrator.proofs.EntryRules.{by_if}
 use Rattle.csi_orchestrator.proofs.RowRules.{AreDistinct, kept-distinct, FitsGoal, due-fits-goal, marked-distinct, kept-sent, kept-closed, kept-dropped, wanted-stopped, wanted-succeeded}
 use Rattle.csi_orchestrator.proofs.UseRules.{distinct-entry, usable-entry}

@@ -1,18 +1,11 @@
 -- Texts that are compared, and lists of texts of which each is taken once.
-use Rattle.std.proofs.Common.{◌≡◌, ◌≢◌, ◌⊎◌, ℕ, suc, List, [], ◌∷◌, Bool, true, false, cond, not, length, map, refl, sym, ◌∙◌, ap, subst, inl, inr}
-use Rattle.std.specs.Prelude.{filter, ◌||◌, ◌&&◌}
-use Rattle.std.specs.List.{list_any}
-use Rattle.std.proofs.lemmas.Bool.{false≢true, false_from_ne_true, and_parts}
-use Rattle.std.proofs.lemmas.List.{length-map}
-use Rattle.csi_lists.specs.Model.Members.{IsAmong, EachTwo}
-use Rattle.csi_lists.proofs.Members.{each_of, all_of, in_filter, among-kept, in-map, among-map, empty-where}
-use Rattle.csi_lists.proofs.Pairs.{two-filter, two-map}
-use Rattle.csi_lists.proofs.Tests.{alike, any-then, then-any, none-among}
-use Rattle.csi_lists.proofs.Filters.{filter-each}
-use Rattle.csi_types.specs.Model.Same.{same_text}
-use Rattle.csi_types.proofs.Equality.{same_text-tells}
-use Rattle.csi_orchestrator.specs.Model.History.{Item, Started, Lost, Forgotten, Sent, Accepted, Closed, Noted}
-use Rattle.csi_orchestrator.specs.Model.Readings.{distinct, with_name, names_in}
+use Rattle.csi_orchestrator.proofs.Words.{◌≡◌, ◌≢◌, ◌⊎◌, ℕ, suc, List, [], ◌∷◌, Bool, true, false, cond, not, length}
+use Rattle.csi_orchestrator.proofs.Words.{map, refl, sym, ◌∙◌, ap, subst, inl, inr, filter, ◌||◌, ◌&&◌, list_any}
+use Rattle.csi_orchestrator.proofs.Words.{IsAmong, EachTwo, same_text, Item, Forgotten}
+use Rattle.csi_orchestrator.proofs.Words.{Noted, distinct, with_name, names_in}
+use Rattle.csi_orchestrator.proofs.Lemmas.{false≢true, false_from_ne_true, and_parts, length-map, each_of, all_of}
+use Rattle.csi_orchestrator.proofs.Lemmas.{in_filter, among-kept, in-map, among-map, empty-where, two-filter, two-map}
+use Rattle.csi_orchestrator.proofs.Lemmas.{alike, any-then, then-any, none-among, filter-each, same_text-tells}
 
 -- a text is the same as itself, two are compared alike from both sides, and those that aren't equal differ
 pub text-same : (text : List ℕ) → same_text text text ≡ true
@@ -153,8 +146,4 @@ names-once (Noted name goal ∷ older) = by (list_any (same_text name) (names_in
     by true e once = once
     by false e once = (all_of (λ (t : List ℕ). same_text name t ≡ false) (names_in older) (λ t among. none-among (same_text name) (names_in older) t e among), once)
 names-once (Forgotten name ∷ older) = two-filter (λ (a b : List ℕ). same_text a b ≡ false) (λ n. not (same_text n name)) (names_in older) (names-once older)
-names-once (Started session nodes ∷ older) = names-once older
-names-once (Lost node ∷ older) = names-once older
-names-once (Sent issued ∷ older) = names-once older
-names-once (Accepted number status id ∷ older) = names-once older
-names-once (Closed number ∷ older) = names-once older
+names-once (item ∷ older) = names-once older

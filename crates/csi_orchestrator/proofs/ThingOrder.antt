@@ -1,22 +1,16 @@
 -- The order of things is one: it is the order of their texts, one after the other.
-use Rattle.std.proofs.Common.{◌≡◌, ℕ, ◌≤◌, List, [], ◌∷◌, Bool, false, get_or, refl, sym, ◌∙◌, ap, subst, arith}
-use Rattle.std.specs.Prelude.{nat_eq}
-use Rattle.std.specs.Ordering.{nat_cmp, ordering_then, ordering_reverse, is_lt, is_eq, eq_by_cmp}
+use Rattle.csi_orchestrator.proofs.Words.{◌≡◌, ℕ, ◌≤◌, List, [], ◌∷◌, Bool, false, get_or, refl, sym, ◌∙◌, ap, subst}
+use Rattle.csi_orchestrator.proofs.Words.{arith, nat_eq, nat_cmp, ordering_then, ordering_reverse, is_lt, is_eq}
+use Rattle.csi_orchestrator.proofs.Words.{eq_by_cmp, IsPermutation, IsSortedBy, slice_cmp, lists_total}
+use Rattle.csi_orchestrator.proofs.Words.{lists_ties, pointwise, pointwise_decides, bytes_decides, Thing, Exists}
+use Rattle.csi_orchestrator.proofs.Words.{Attached, Staged, Published, Known, EachTwo, text_order, thing_order}
+use Rattle.csi_orchestrator.proofs.Words.{IsInOrder}
 use Rattle.std.specs.List.{IsDistinct}
-use Rattle.std.specs.List.Sorted.{IsPermutation, IsSortedBy}
+use Rattle.csi_orchestrator.proofs.Lemmas.{ranks_by, sorted_far, false≢true, two-by_places, two-more}
 use Rattle.std.specs.Cmp.{IsTotalOrder, nat_cmp_total, on_total, unsigned_ties}
-use Rattle.std.specs.Cmp.Lexicographic.{slice_cmp, lists_total, lists_ties, pointwise, pointwise_decides, bytes_decides}
-use Rattle.std.proofs.lemmas.List.Sorted.{ranks_by, sorted_far}
 use Rattle.std.proofs.lemmas.Map.Keys.{IsDistinct-IsPermutation, apart_from_distinct}
-use Rattle.std.proofs.lemmas.Bool.{false≢true}
 use Rattle.std.specs.declared.cmp.Ordering.{Ordering}
 use Rattle.std.specs.declared.cmp.Ordering.TheVariants.{Less, Equal, Greater}
-use Rattle.csi_orchestrator.specs.declared.thing.Thing.{Thing}
-use Rattle.csi_orchestrator.specs.declared.thing.Thing.TheVariants.{Exists, Attached, Staged, Published}
-use Rattle.csi_orchestrator.specs.declared.thing.Known.{Known}
-use Rattle.csi_lists.specs.Model.Members.{EachTwo}
-use Rattle.csi_lists.proofs.Pairs.{two-by_places, two-more}
-use Rattle.csi_orchestrator.specs.Public.Listing.{text_order, thing_order, IsInOrder}
 use Rattle.csi_orchestrator.proofs.ThingsNoted.{AreTwoThings}
 
 -- what tells things apart: one text for each of the name, the node, being more than attached, and the target
@@ -33,8 +27,7 @@ by_texts a b = slice_cmp (slice_cmp nat_cmp) (texts_of a) (texts_of b)
 -- an order stays as it is where the next comparison gives Equal
 then-equal : (r : Ordering) → ordering_then r Equal ≡ r
 then-equal Less = refl
-then-equal Equal = refl
-then-equal Greater = refl
+then-equal order = refl
 
 -- the order of things is that one
 pub order-by_texts : (a b : Thing) → thing_order a b ≡ by_texts a b
@@ -84,8 +77,7 @@ has_one_place a b = is_eq (thing_order a.0 b.0)
 -- an order that is turned around has the same ties
 reverse-level : (r : Ordering) → is_eq (ordering_reverse r) ≡ is_eq r
 reverse-level Less = refl
-reverse-level Equal = refl
-reverse-level Greater = refl
+reverse-level order = refl
 
 -- whether two things come in one place is the same from both sides
 place-flips : (a b : Thing × Known) → has_one_place a b ≡ has_one_place b a

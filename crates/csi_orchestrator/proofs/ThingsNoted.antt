@@ -1,28 +1,14 @@
 -- What the rows note is what they know, each thing once.
-use Rattle.std.proofs.Common.{◌≡◌, ◌⊎◌, ℕ, List, [], ◌∷◌, ◌++◌, false, refl, sym, ◌∙◌, ap, subst, inl, inr}
-use Rattle.std.specs.Prelude.{Option, Some, None, find}
-use Rattle.std.specs.List.{flat_map}
-use Rattle.std.proofs.lemmas.Bool.{false≢true}
-use Rattle.std.proofs.lemmas.Option.{same_Some}
-use Rattle.csi_lists.specs.Model.Members.{IsAmong, EachTwo}
-use Rattle.csi_lists.proofs.Members.{each_of, all_of, among-append, among-find, among-right, among-joined, among-flat, in-flat}
-use Rattle.csi_lists.proofs.Searches.{find-passes}
-use Rattle.csi_lists.proofs.Pairs.{two-joined, two-flat}
-use Rattle.csi_types.specs.Model.Same.{same_text}
-use Rattle.csi_types.proofs.Equality.{same_text-tells}
-use Rattle.csi_orchestrator.specs.declared.row.TargetEntry.{TargetEntry}
-use Rattle.csi_orchestrator.specs.declared.thing.Thing.{Thing}
-use Rattle.csi_orchestrator.specs.declared.thing.Thing.TheVariants.{Exists, Attached, Staged, Published}
-use Rattle.csi_orchestrator.specs.declared.thing.Known.{Known}
-use Rattle.csi_orchestrator.specs.declared.thing.Known.TheVariants.{Yes, No, Maybe}
-use Rattle.csi_orchestrator.specs.Model.Thing.{name_in}
-use Rattle.csi_orchestrator.specs.Model.Shown.{NodeEntryShown, RowShown, OrchestratorParts, row_of, node_entry_of, mark_in, mark_of, publication_known, Shows}
-use Rattle.csi_orchestrator.specs.Public.Shown.{AreTargetsApart}
-use Rattle.csi_orchestrator.specs.Public.Sound.{IsSoundRow, AreSoundRows}
-use Rattle.csi_orchestrator.specs.Model.History.{History}
-use Rattle.csi_orchestrator.specs.Model.Readings.{known}
-use Rattle.csi_orchestrator.specs.Private.Listing.{known_by_rows, noted, noted_of_target, noted_of_node, noted_of_row, noted_in}
-use Rattle.csi_orchestrator.specs.Public.Listing.{ListsKnown, node_of_thing, target_of_thing}
+use Rattle.csi_orchestrator.proofs.Words.{◌≡◌, ◌⊎◌, ℕ, List, [], ◌∷◌, ◌++◌, false, refl, sym, ◌∙◌, ap, subst, inl, inr}
+use Rattle.csi_orchestrator.proofs.Words.{Option, Some, None, find, flat_map, IsAmong, EachTwo, same_text, TargetEntry}
+use Rattle.csi_orchestrator.proofs.Words.{Thing, Exists, Attached, Staged, Published, Known, Yes, No, Maybe, name_in}
+use Rattle.csi_orchestrator.proofs.Words.{NodeEntryShown, RowShown, OrchestratorParts, row_of, node_entry_of, mark_in}
+use Rattle.csi_orchestrator.proofs.Words.{mark_of, publication_known, Shows, AreTargetsApart, IsSoundRow, AreSoundRows}
+use Rattle.csi_orchestrator.proofs.Words.{History, known, known_by_rows, noted, noted_of_target, noted_of_node}
+use Rattle.csi_orchestrator.proofs.Words.{noted_of_row, noted_in, ListsKnown, node_of_thing, target_of_thing}
+use Rattle.csi_orchestrator.proofs.Lemmas.{false≢true, same_Some, each_of, all_of, among-append, among-find}
+use Rattle.csi_orchestrator.proofs.Lemmas.{among-right, among-joined, among-flat, in-flat, find-passes, two-joined}
+use Rattle.csi_orchestrator.proofs.Lemmas.{two-flat, same_text-tells}
 use Rattle.csi_orchestrator.proofs.JoinedLists.{own-entry}
 
 -- the entries are of two things

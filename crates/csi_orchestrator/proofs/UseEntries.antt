@@ -1,15 +1,8 @@
 -- An entry for a use, where its node's entry stands and where there is none.
-use Rattle.std.proofs.Common.{◌≡◌, ℕ, List, [], ◌∷◌, ◌++◌, get_or, map, set, refl, sym, ◌∙◌, ap}
-use Rattle.std.specs.Prelude.{Option, Some, None, find, position}
-use Rattle.std.proofs.lemmas.List.Quantifiers.{position-Some}
-use Rattle.csi_types.specs.Model.Same.{same_text}
-use Rattle.csi_types.proofs.Equality.{same_text-tells}
-use Rattle.csi_orchestrator.specs.declared.row.NodeEntry.{NodeEntry}
-use Rattle.csi_orchestrator.specs.declared.request.Usage.{Usage}
-use Rattle.csi_orchestrator.specs.Private.Keyed.{put_by}
-use Rattle.csi_orchestrator.specs.Model.Shown.{NodeEntryShown}
-use Rattle.csi_orchestrator.specs.Public.Shown.{node_entry_shown}
-use Rattle.csi_orchestrator.specs.Private.RowChanges.{entry_for}
+use Rattle.csi_orchestrator.proofs.Words.{◌≡◌, ℕ, List, [], ◌∷◌, ◌++◌, get_or, map, set, refl, sym, ◌∙◌, ap, Option}
+use Rattle.csi_orchestrator.proofs.Words.{Some, None, find, position, same_text, NodeEntry, Usage, put_by}
+use Rattle.csi_orchestrator.proofs.Words.{NodeEntryShown, node_entry_shown, entry_for}
+use Rattle.csi_orchestrator.proofs.Lemmas.{position-Some, same_text-tells}
 use Rattle.csi_orchestrator.proofs.ChangedEntries.{find-place, find-none_placed, put-place, put-none_placed}
 use Rattle.csi_orchestrator.proofs.RowsAfterNotes.{held-same}
 

@@ -1,26 +1,15 @@
 -- What holds of a row once an entry for a use was put in.
-use Rattle.std.proofs.Common.{◌≡◌, ℕ, List, [], ◌∷◌, ◌++◌, Bool, true, false, cond, not, refl, sym, ◌∙◌, ap}
-use Rattle.std.specs.Prelude.{Option, Some, None, find, is_some, ◌&&◌}
-use Rattle.std.specs.List.{AllByRecursion, list_any}
-use Rattle.std.proofs.lemmas.Bool.{false≢true, and_parts, not-false}
-use Rattle.csi_types.specs.Model.Same.{same_text, same_flag, same_capability}
-use Rattle.csi_lists.proofs.Members.{each_of, among-find, none_passes}
-use Rattle.csi_lists.proofs.Pairs.{two-append}
-use Rattle.csi_lists.proofs.Searches.{find-append_one, find-passes}
-use Rattle.csi_types.proofs.Equality.{same_text-tells, same_capability-tells}
-use Rattle.csi_orchestrator.specs.declared.row.Goal.TheVariants.{Use}
-use Rattle.csi_orchestrator.specs.declared.row.TargetEntry.{TargetEntry}
-use Rattle.csi_orchestrator.specs.declared.thing.Known.TheVariants.{Yes}
-use Rattle.csi_orchestrator.specs.Model.Thing.{is_no}
-use Rattle.csi_orchestrator.specs.Model.History.{Usage, Held}
-use Rattle.csi_orchestrator.specs.Model.Commands.{is_for_one_node, uses_as_second_writer}
-use Rattle.csi_orchestrator.specs.Model.Shown.{NodeEntryShown, RowShown, node_entry_of, target_entry_of}
-use Rattle.csi_orchestrator.specs.Public.Shown.{AreTargetsApart}
-use Rattle.csi_orchestrator.specs.Private.RowChanges.{wanted_row, new_target_entry, with_target, held_as, entry_for, with_entry}
-use Rattle.csi_orchestrator.specs.Public.RowRefusals.{is_so_elsewhere, has_elsewhere}
-use Rattle.csi_orchestrator.specs.Private.RowRefusals.{is_entry_otherwise}
-use Rattle.csi_orchestrator.specs.Private.Keyed.{put_by}
-use Rattle.csi_orchestrator.specs.Public.Sound.{IsUsable}
+use Rattle.csi_orchestrator.proofs.Words.{◌≡◌, ℕ, List, [], ◌∷◌, ◌++◌, Bool, true, false, cond, not, refl, sym, ◌∙◌, ap}
+use Rattle.csi_orchestrator.proofs.Words.{Option, Some, None, find, is_some, ◌&&◌, AllByRecursion, list_any, same_text}
+use Rattle.csi_orchestrator.proofs.Words.{same_flag, same_capability, Use, TargetEntry, Yes, is_no, Held}
+use Rattle.csi_orchestrator.proofs.Words.{is_for_one_node, uses_as_second_writer, NodeEntryShown, RowShown}
+use Rattle.csi_orchestrator.proofs.Words.{node_entry_of, target_entry_of, AreTargetsApart, wanted_row, new_target_entry}
+use Rattle.csi_orchestrator.proofs.Words.{with_target, held_as, entry_for, with_entry, is_so_elsewhere, has_elsewhere}
+use Rattle.csi_orchestrator.proofs.Words.{is_entry_otherwise, put_by, IsUsable}
+use Rattle.csi_orchestrator.proofs.Lemmas.{false≢true, and_parts, not-false, each_of, among-find, none_passes}
+use Rattle.csi_orchestrator.proofs.Lemmas.{two-append, find-append_one, find-passes, same_text-tells}
+use Rattle.csi_orchestrator.proofs.Lemmas.{same_capability-tells}
+use Rattle.csi_orchestrator.specs.Model.History.{Usage}
 use Rattle.csi_orchestrator.proofs.TextLists.{text-same}
 use Rattle.csi_orchestrator.proofs.KeyedSearches.{find-put}
 use Rattle.csi_orchestrator.proofs.EntryRules.{each-put, apart-put, any-put}

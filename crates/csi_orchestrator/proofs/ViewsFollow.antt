@@ -1,27 +1,20 @@
 -- Why what an orchestrator shows can be kept up item by item.
-use Rattle.std.proofs.Common.{◌≡◌, ◌≢◌, ◌+◌, ℕ, List, [], ◌∷◌, Bool, true, false, cond, not, refl, sym, ◌∙◌, ap, subst, inl, inr, arith}
-use Rattle.std.specs.Prelude.{Option, Some, None, min, find, filter, filter_map, option_and_then, ◌&&◌, ◌||◌}
-use Rattle.std.specs.List.{list_any, cons_option}
-use Rattle.std.specs.Option.{option_or}
-use Rattle.std.proofs.lemmas.Bool.{false≢true}
-use Rattle.std.proofs.lemmas.Bool.Decides.{nat_tests}
-use Rattle.csi_types.specs.declared.call.Call.{Call}
+use Rattle.csi_orchestrator.proofs.Words.{◌≡◌, ◌≢◌, ◌+◌, ℕ, List, [], ◌∷◌, Bool, true, false, cond, not, refl, sym, ◌∙◌}
+use Rattle.csi_orchestrator.proofs.Words.{ap, subst, inl, inr, arith, Option, Some, None, min, find, filter, filter_map}
+use Rattle.csi_orchestrator.proofs.Words.{option_and_then, ◌&&◌, ◌||◌, list_any, cons_option, option_or, Call, Party}
+use Rattle.csi_orchestrator.proofs.Words.{Controller, Node, Number, IsAmong, same_text, same_number, Thing, Exists}
+use Rattle.csi_orchestrator.proofs.Words.{Attached, Staged, Published, No, Maybe, Issued, name_in, same_thing, thing_at}
+use Rattle.csi_orchestrator.proofs.Words.{is_thing, is_doing, touches, Item, Started, Lost, Forgotten, Sent, Closed}
+use Rattle.csi_orchestrator.proofs.Words.{Noted, Held, Arguments, History, with_items, newest, issued_in, issued_of}
+use Rattle.csi_orchestrator.proofs.Words.{is_success_of, has_success, known_by, known, id_in, id_by, id_of}
+use Rattle.csi_orchestrator.proofs.Words.{held_by_call, noted_for, arguments_in_goal, open_call, unless, calls_since}
+use Rattle.csi_orchestrator.proofs.Words.{last_number, since, lifetime, is_gone_with, ends, issued_since, with_name}
+use Rattle.csi_orchestrator.proofs.Words.{names_of, IsNextNumber, IsWellFormed, OrchestratorView, Agrees, after_started}
+use Rattle.csi_orchestrator.proofs.Words.{after_lost, after_forgotten, after_sent, after_closed, after_noted}
+use Rattle.csi_orchestrator.proofs.Words.{DetachesSomething}
+use Rattle.csi_orchestrator.proofs.Lemmas.{false≢true, nat_tests, same_text-tells, same_number-tells}
 use Rattle.csi_types.specs.declared.call.Call.TheVariants as calls
-use Rattle.csi_types.specs.declared.call.Party.{Party}
-use Rattle.csi_types.specs.declared.call.Party.TheVariants.{Controller, Node}
-use Rattle.csi_types.specs.declared.number.Number.{Number}
-use Rattle.csi_lists.specs.Model.Members.{IsAmong}
-use Rattle.csi_types.specs.Model.Same.{same_text, same_number}
-use Rattle.csi_types.proofs.Equality.{same_text-tells, same_number-tells}
-use Rattle.csi_orchestrator.specs.declared.thing.Thing.{Thing}
-use Rattle.csi_orchestrator.specs.declared.thing.Thing.TheVariants.{Exists, Attached, Staged, Published}
-use Rattle.csi_orchestrator.specs.declared.thing.Known.TheVariants.{No, Maybe}
-use Rattle.csi_orchestrator.specs.Model.Thing.{Issued, name_in, same_thing, thing_at, is_thing, is_doing, touches}
-use Rattle.csi_orchestrator.specs.Model.History.{Goal, Item, Started, Lost, Forgotten, Sent, Closed, Noted, Held, Arguments, History, with_items}
-use Rattle.csi_orchestrator.specs.Model.Readings.{newest, issued_in, issued_of, is_success_of, has_success, known_by, known, id_in, id_by, id_of, held_by_call, noted_for, arguments_in_goal, open_call, unless, calls_since, last_number, since, lifetime, is_gone_with, ends, issued_since, with_name, names_of}
-use Rattle.csi_orchestrator.specs.Model.WellFormed.{IsNextNumber, IsWellFormed}
-use Rattle.csi_orchestrator.specs.Model.Agrees.{OrchestratorView, Agrees}
-use Rattle.csi_orchestrator.specs.Private.Following.{after_started, after_lost, after_forgotten, after_sent, after_closed, after_noted, DetachesSomething}
+use Rattle.csi_orchestrator.specs.Model.History.{Goal}
 use Rattle.csi_orchestrator.proofs.Numbers.{one-call, open-sent, fresh-silent}
 use Rattle.csi_orchestrator.proofs.TextLists.{same_text-flip, any-with, any-without}
 
@@ -141,9 +134,6 @@ sent-follows view history issued form agrees next detaches =
       same_counts = λ name. count (same_text issued.name name) (view.counts name) (calls_since name history.items) (agrees.same_counts name);
     }
   where
-    later : List Item
-    later = Sent issued ∷ history.items
-
     silent : (has_success history.items issued.number ≡ false) × (filter_map (id_in issued.number) history.items ≡ [])
     silent = fresh-silent history.began history.items issued.number form next.later
 

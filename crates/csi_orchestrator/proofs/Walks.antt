@@ -1,20 +1,11 @@
 -- A walk along a list, which tests the first of a text in one way and all others in another, is gone through exactly where one is so and each other
 -- one otherwise.
-use Rattle.std.proofs.Common.{◌≡◌, ◌≢◌, ℕ, List, [], ◌∷◌, Bool, true, false, cond, not, length, map, refl, sym, ◌∙◌, ap, subst, inl, inr, arith}
-use Rattle.std.specs.Prelude.{◌==◌, ◌&&◌, ◌||◌}
-use Rattle.std.specs.List.{AllByRecursion, list_all}
-use Rattle.std.proofs.lemmas.Bool.{and_from, and_parts, eq-eqb, false≢true}
-use Rattle.csi_lists.specs.Model.Members.{IsAmong}
-use Rattle.csi_lists.proofs.Each.{each-weaker}
-use Rattle.csi_types.specs.Model.Same.{same_text}
-use Rattle.csi_orchestrator.specs.declared.row.TargetEntry.{TargetEntry}
-use Rattle.csi_orchestrator.specs.declared.thing.Known.{Known}
-use Rattle.csi_orchestrator.specs.declared.thing.Known.TheVariants.{Yes, No, Maybe}
-use Rattle.csi_orchestrator.specs.Model.Shown.{NodeEntryShown}
-use Rattle.csi_orchestrator.specs.Model.Thing.{is_yes}
-use Rattle.csi_orchestrator.specs.Public.Shown.{AreTargetsApart}
-use Rattle.csi_orchestrator.specs.Public.Steady.{HasOne, IsAtWork, HasMarks, IsLast}
-use Rattle.csi_orchestrator.specs.Private.Judging.{is_published, is_way, is_at_target}
+use Rattle.csi_orchestrator.proofs.Words.{◌≡◌, ◌≢◌, ℕ, List, [], ◌∷◌, Bool, true, false, cond, not, length, map, refl}
+use Rattle.csi_orchestrator.proofs.Words.{sym, ◌∙◌, ap, subst, inl, inr, arith, ◌==◌, ◌&&◌, ◌||◌, AllByRecursion}
+use Rattle.csi_orchestrator.proofs.Words.{list_all, IsAmong, same_text, TargetEntry, Known, Yes, No, Maybe}
+use Rattle.csi_orchestrator.proofs.Words.{NodeEntryShown, is_yes, AreTargetsApart, HasOne, IsAtWork, HasMarks, IsLast}
+use Rattle.csi_orchestrator.proofs.Words.{is_published, is_way, is_at_target}
+use Rattle.csi_orchestrator.proofs.Lemmas.{and_from, and_parts, eq-eqb, false≢true, each-weaker}
 use Rattle.csi_orchestrator.proofs.EntryRules.{AreApart}
 use Rattle.csi_orchestrator.proofs.HasOnes.{others-of}
 use Rattle.csi_orchestrator.proofs.Judged.{implied-from, from-implied, all-from, from-all, all-shown, shown-all, empty-from}

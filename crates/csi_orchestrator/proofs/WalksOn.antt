@@ -1,15 +1,9 @@
 -- How the test of a use goes on behind an entry of another node, and whether a node has targets.
-use Rattle.std.proofs.Common.{◌≡◌, ◌<◌, ◌+◌, ℕ, List, ◌∷◌, get_or, drop, length, map, Bool, true, false, cond, refl, sym, ◌∙◌, ap}
-use Rattle.std.specs.Prelude.{◌&&◌, ◌==◌, Option, Some, None, find, option_map}
-use Rattle.std.specs.List.{list_all}
-use Rattle.std.proofs.lemmas.List.{drop_more}
-use Rattle.csi_lists.proofs.Searches.{find-of_map}
-use Rattle.csi_types.specs.Model.Same.{same_text}
-use Rattle.csi_orchestrator.specs.declared.request.Usage.{Usage}
-use Rattle.csi_orchestrator.specs.declared.row.NodeEntry.{NodeEntry}
-use Rattle.csi_orchestrator.specs.Model.Shown.{NodeEntryShown}
-use Rattle.csi_orchestrator.specs.Public.Shown.{node_entry_shown}
-use Rattle.csi_orchestrator.specs.Private.Judging.{is_resting, uses_here, is_untargeted, is_use_on_the_way}
+use Rattle.csi_orchestrator.proofs.Words.{◌≡◌, ◌<◌, ◌+◌, ℕ, List, ◌∷◌, get_or, drop, length, map, Bool, true, false}
+use Rattle.csi_orchestrator.proofs.Words.{cond, refl, sym, ◌∙◌, ap, ◌&&◌, ◌==◌, Option, Some, None, find, option_map}
+use Rattle.csi_orchestrator.proofs.Words.{list_all, same_text, Usage, NodeEntry, NodeEntryShown, node_entry_shown}
+use Rattle.csi_orchestrator.proofs.Words.{is_resting, uses_here, is_untargeted, is_use_on_the_way}
+use Rattle.csi_orchestrator.proofs.Lemmas.{drop_more, find-of_map}
 
 -- an entry of another node, and what is behind it
 pub use-walks : (usage : Usage) (entries : List NodeEntry) (place : ℕ) (entry : NodeEntry) → place < length entries → entry ≡ get_or entries place entry → same_text entry.node usage.node ≡ false

@@ -1,33 +1,16 @@
 -- A call that was just sent is delivered and answered, its reply is delivered, and fewer calls are left.
-use Rattle.std.proofs.Common.{◌≡◌, ◌⊎◌, ℕ, zero, suc, ◌+◌, ◌^◌, ◌≤◌, List, [], ◌∷◌, ◌++◌, length, slice_get, Bool, true, false, cond, find, Some, None, Ok, refl, sym, ◌∙◌, ap, subst, inl, inr, ⊎_elim, arith, length-append}
-use Rattle.std.specs.Prelude.{is_none}
-use Rattle.std.proofs.lemmas.Bool.{false≢true}
-use Rattle.csi_types.specs.declared.call.Call.{Call}
+use Rattle.csi_world.proofs.Words.{◌≡◌, ◌⊎◌, ℕ, zero, suc, ◌+◌, ◌^◌, ◌≤◌, List, [], ◌∷◌, ◌++◌, length, slice_get, Bool}
+use Rattle.csi_world.proofs.Words.{true, false, cond, find, Some, None, Ok, refl, sym, ◌∙◌, ap, subst, inl, inr, ⊎_elim}
+use Rattle.csi_world.proofs.Words.{arith, length-append, is_none, Call, Capability, Node, Deliver, Reply, kind_of}
+use Rattle.csi_world.proofs.Words.{Frame, is_ok_status, reply_frame, same_text, same_number, same_party, same_kind}
+use Rattle.csi_world.proofs.Words.{Arguments, Usage, Issued, is_doing, touches, Thing, No, Goal, Create, Use, Stop}
+use Rattle.csi_world.proofs.Words.{Item, Sent, Accepted, Noted, History, with_items, goal_of, id_of, known, last_number}
+use Rattle.csi_world.proofs.Words.{open_call, Due, due_kind, due_for, Comes, moves, send_due, is_forward, undoing_goal}
+use Rattle.csi_world.proofs.Words.{call_replied, hears, heard, heard_refusal, frame_of, World, by_result, orchestrated}
+use Rattle.csi_world.proofs.Words.{called, delivered, occurs, is_at_rest, node_in, WasRefused}
+use Rattle.csi_world.proofs.Lemmas.{false≢true, same_number-tells, same_party-tells, same_kind-tells}
 use Rattle.csi_types.specs.declared.call.Call.TheVariants as calls
 use Rattle.csi_types.specs.declared.call.Kind.TheVariants as kinds
-use Rattle.csi_types.specs.declared.capability.Capability.{Capability}
-use Rattle.csi_types.specs.declared.call.Party.TheVariants.{Node}
-use Rattle.csi_types.specs.declared.event.Event.TheVariants.{Deliver}
-use Rattle.csi_types.specs.declared.reply.Reply.{Reply}
-use Rattle.csi_types.specs.Model.Call.{kind_of}
-use Rattle.csi_types.specs.Model.Frame.{Frame}
-use Rattle.csi_types.specs.Model.Reply.{is_ok_status}
-use Rattle.csi_types.specs.Model.Replies.{reply_frame}
-use Rattle.csi_types.specs.Model.Same.{same_text, same_number, same_party, same_kind}
-use Rattle.csi_types.proofs.Equality.{same_number-tells, same_party-tells, same_kind-tells}
-use Rattle.csi_orchestrator.specs.declared.request.Arguments.{Arguments}
-use Rattle.csi_orchestrator.specs.declared.request.Usage.{Usage}
-use Rattle.csi_orchestrator.specs.Model.Thing.{Issued, is_doing, touches}
-use Rattle.csi_orchestrator.specs.declared.thing.Thing.{Thing}
-use Rattle.csi_orchestrator.specs.declared.thing.Known.TheVariants.{No}
-use Rattle.csi_orchestrator.specs.Model.History.{Goal, Create, Use, Stop, Item, Sent, Accepted, Noted, History, with_items}
-use Rattle.csi_orchestrator.specs.Model.Readings.{goal_of, id_of, known, last_number, open_call}
-use Rattle.csi_orchestrator.specs.Model.Due.{Due, due_kind, due_for}
-use Rattle.csi_orchestrator.specs.Model.Moves.{Comes, moves, send_due, is_forward, undoing_goal, call_replied, hears, heard, heard_refusal}
-use Rattle.csi_orchestrator.specs.Public.Steps.{frame_of}
-use Rattle.csi_world.specs.Model.World.{World}
-use Rattle.csi_world.specs.Model.After.{by_result, orchestrated, called, delivered, occurs}
-use Rattle.csi_world.specs.Public.Settling.{is_at_rest, node_in, WasRefused}
 use Rattle.csi_world.proofs.Lifetimes.{calls_for}
 use Rattle.csi_world.proofs.NamesRowed.{known-aside, still-gone}
 use Rattle.csi_world.proofs.CallThings.{is_making}
@@ -243,10 +226,7 @@ module _ (laws : RunLaws) (name : List ℕ) where
             stopped (ap is_forward c) (subst (λ k. 4 ≤ rank_of (kind_of k)) (sym c) (omega arith)) bad (refusal bad ∙ ap (heard_refusal old.history issued accepted) c)
         refused (calls.NodePublishVolume id target capability readonly) c bad =
             stopped (ap is_forward c) (subst (λ k. 4 ≤ rank_of (kind_of k)) (sym c) (omega arith)) bad (refusal bad ∙ ap (heard_refusal old.history issued accepted) c)
-        refused (calls.DeleteVolume id) c bad = undone (ap is_doing c) bad
-        refused (calls.ControllerUnpublishVolume id node) c bad = undone (ap is_doing c) bad
-        refused (calls.NodeUnstageVolume id) c bad = undone (ap is_doing c) bad
-        refused (calls.NodeUnpublishVolume id target) c bad = undone (ap is_doing c) bad
+        refused call c bad = undone (ap is_doing c) bad
 
         by : (b : Bool) → is_ok_status reply.status ≡ b → Replied world last_world sent (length old.frames) rank goal × Extends old last_world
         by true ok = succeeds ok

@@ -1,27 +1,14 @@
 -- The thing that a sent call does or undoes, by its id: each sent call is for the volume of its name, a name was given one id, and
 -- lists of sent calls are searched for a thing by either.
-use Rattle.std.proofs.Common.{◌≡◌, ℕ, List, [], ◌∷◌, Bool, true, false, Option, Some, None, IsTrue, refl, sym, ◌∙◌, ap, subst, inl, inr, arith}
-use Rattle.std.proofs.lemmas.Bool.{false≢true}
-use Rattle.std.proofs.lemmas.Bool.Decides.{nat_tests}
-use Rattle.csi_types.specs.declared.number.Number.{Number}
-use Rattle.csi_types.specs.declared.call.Call.{Call}
+use Rattle.csi_world.proofs.Words.{◌≡◌, ℕ, List, [], ◌∷◌, Bool, true, false, Option, Some, None, IsTrue, refl, sym, ◌∙◌}
+use Rattle.csi_world.proofs.Words.{ap, subst, inl, inr, arith, Number, Call, Party, Controller, Node, Reply, kind_of}
+use Rattle.csi_world.proofs.Words.{Frame, PluginThing, Exists, Attached, Staged, Published, same_plugin_thing, IsAmong}
+use Rattle.csi_world.proofs.Words.{EachTwo, is_before, IsBefore, reply_frame, Thing, Issued, thing_at}
+use Rattle.csi_world.proofs.Lemmas.{false≢true, nat_tests, same_plugin_thing-tells, each_of}
 use Rattle.csi_types.specs.declared.call.Call.TheVariants as calls
-use Rattle.csi_types.specs.declared.call.Party.{Party}
-use Rattle.csi_types.specs.declared.call.Party.TheVariants.{Controller, Node}
-use Rattle.csi_types.specs.declared.reply.Reply.{Reply}
 use Rattle.csi_types.specs.declared.status.Status.TheVariants.{Ok}
-use Rattle.csi_types.specs.Model.Call.{kind_of}
 use Rattle.csi_types.specs.Public.Call.{is_party_of}
-use Rattle.csi_types.specs.Model.Frame.{Frame}
-use Rattle.csi_types.specs.Public.PluginThing.{PluginThing, Exists, Attached, Staged, Published, same_plugin_thing}
-use Rattle.csi_types.proofs.Equality.{same_plugin_thing-tells}
-use Rattle.csi_lists.specs.Model.Members.{IsAmong, EachTwo}
-use Rattle.csi_lists.proofs.Members.{each_of}
-use Rattle.csi_types.specs.Model.Number.{is_before, IsBefore}
-use Rattle.csi_types.specs.Model.Replies.{reply_frame}
-use Rattle.csi_orchestrator.specs.declared.thing.Thing.{Thing}
 use Rattle.csi_orchestrator.specs.declared.thing.Thing.TheVariants as things
-use Rattle.csi_orchestrator.specs.Model.Thing.{Issued, thing_at}
 use Rattle.csi_world.proofs.Parties.{party_of}
 use Rattle.csi_world.proofs.GivenIds.{GivenId, HasNow, HasOld, HasName}
 
@@ -81,13 +68,7 @@ IsOwnOld given = IsFor (HasOld given)
 -- the call makes a volume
 abbrev pub is_making : Call → Bool
 is_making (calls.CreateVolume name required limit capabilities) = true
-is_making (calls.DeleteVolume id) = false
-is_making (calls.ControllerPublishVolume id node capability readonly) = false
-is_making (calls.ControllerUnpublishVolume id node) = false
-is_making (calls.NodeStageVolume id capability) = false
-is_making (calls.NodeUnstageVolume id) = false
-is_making (calls.NodePublishVolume id target capability readonly) = false
-is_making (calls.NodeUnpublishVolume id target) = false
+is_making call = false
 
 -- a thing by its name, and by an id that has the name so
 pub data IsThingBy (has : List ℕ → ℕ → Type 0) : Thing → PluginThing → Type 0 where

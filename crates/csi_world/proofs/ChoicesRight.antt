@@ -1,28 +1,14 @@
 -- What is so of a world after each choice.
-use Rattle.std.proofs.Common.{◌≡◌, ℕ, ◌<◌, ◌≤◌, List, [], ◌∷◌, ◌++◌, map, Option, Some, None, refl, sym, ◌∙◌, ap, subst, inl, inr, ⊎_elim, arith}
-use Rattle.std.proofs.lemmas.Bool.Decides.{nat_tests}
-use Rattle.std.proofs.lemmas.Option.{none-some}
-use Rattle.csi_types.specs.declared.number.Number.{Number}
-use Rattle.csi_types.specs.declared.reply.Reply.{Reply}
-use Rattle.csi_types.specs.declared.status.Status.{Status}
-use Rattle.csi_types.specs.Model.Call.{kind_of}
-use Rattle.csi_types.specs.Model.Config.{Config}
-use Rattle.csi_types.specs.Model.Frame.{Frame}
-use Rattle.csi_lists.specs.Model.Members.{IsAmong}
-use Rattle.csi_types.specs.Model.Number.{IsBefore}
-use Rattle.csi_types.specs.declared.call.Party.{Party}
-use Rattle.csi_types.specs.declared.call.Party.TheVariants.{Controller, Node}
-use Rattle.csi_fence.specs.Public.Delivery.{IsEmpty}
-use Rattle.csi_types.specs.Public.PluginThing.{PluginThing, StagedAs, Attached, Staged}
-use Rattle.csi_node.specs.Model.State.{NodeState}
+use Rattle.csi_world.proofs.Words.{◌≡◌, ℕ, ◌<◌, ◌≤◌, List, [], ◌∷◌, ◌++◌, map, Option, Some, None, refl, sym, ◌∙◌, ap}
+use Rattle.csi_world.proofs.Words.{subst, inl, inr, ⊎_elim, arith, Number, Reply, Status, kind_of, Config, Frame}
+use Rattle.csi_world.proofs.Words.{IsAmong, IsBefore, Party, Controller, Node, IsEmpty, PluginThing, StagedAs, Attached}
+use Rattle.csi_world.proofs.Words.{Staged, NodeState, Issued, Started, Sent, Accepted, Closed, Noted, History}
+use Rattle.csi_world.proofs.Words.{with_items, issued_in, last_number, World, node_id, empty_world, node_state}
+use Rattle.csi_world.proofs.Words.{with_history, Choice, Sends, Closes, Takes, Notes, Starts, Forgets, Answers, Joins}
+use Rattle.csi_world.proofs.Words.{Loses, Configures, MaySend, MayTake, MayChoose, MayChooseAll, chosen, chosen_all}
+use Rattle.csi_world.proofs.Words.{frame_of}
+use Rattle.csi_world.proofs.Lemmas.{nat_tests, none-some, open-sent}
 use Rattle.csi_node.specs.Public.View.{empty_node}
-use Rattle.csi_orchestrator.specs.Model.Thing.{Issued}
-use Rattle.csi_orchestrator.specs.Model.History.{Started, Sent, Accepted, Closed, Noted, History, with_items}
-use Rattle.csi_orchestrator.specs.Model.Readings.{issued_in, last_number}
-use Rattle.csi_orchestrator.proofs.Numbers.{open-sent}
-use Rattle.csi_world.specs.Model.World.{World, node_id, empty_world, node_state, with_history}
-use Rattle.csi_world.specs.Public.Step.{Choice, Sends, Closes, Takes, Notes, Starts, Forgets, Answers, Joins, Loses, Configures, MaySend, MayTake, MayChoose, MayChooseAll, chosen, chosen_all}
-use Rattle.csi_orchestrator.specs.Public.Steps.{frame_of}
 use Rattle.csi_world.proofs.WorldView.{party_of, node_view, over_at, plugin_view, view_of}
 use Rattle.csi_world.proofs.GivenIds.{GivenId, HasOld}
 use Rattle.csi_world.proofs.CallThings.{IsOwnNow, IsAnsweredOk}

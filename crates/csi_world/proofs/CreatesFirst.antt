@@ -1,22 +1,12 @@
 -- Which names' ids were heard since they were forgotten last: before a call of another kind is sent for a name its id was heard, and after
 -- that no CreateVolume is sent for it. So each CreateVolume of a name comes before every other call of it.
-use Rattle.std.proofs.Common.{◌≡◌, ◌⊎◌, ℕ, List, [], ◌∷◌, true, false, Some, None, filter_map, refl, sym, ◌∙◌, ap, subst, inl, inr}
-use Rattle.std.proofs.lemmas.Bool.{false≢true}
-use Rattle.std.proofs.lemmas.Option.{none-some}
-use Rattle.csi_types.specs.declared.call.Call.{Call}
+use Rattle.csi_world.proofs.Words.{◌≡◌, ◌⊎◌, ℕ, List, [], ◌∷◌, true, false, Some, None, filter_map, refl, sym, ◌∙◌, ap}
+use Rattle.csi_world.proofs.Words.{subst, inl, inr, Call, Party, Controller, Node, IsBefore, same_text, IsAmong, Issued}
+use Rattle.csi_world.proofs.Words.{Item, Sent, History, newest, lifetime, issued_in, issued_since, id_in, id_by, id_of}
+use Rattle.csi_world.proofs.Words.{IsGuarded, Exists}
+use Rattle.csi_world.proofs.Lemmas.{false≢true, none-some, same_text-tells, among-kept, in_filter, in-filter_map}
 use Rattle.csi_types.specs.declared.call.Call.TheVariants as calls
-use Rattle.csi_types.specs.declared.call.Party.{Party}
-use Rattle.csi_types.specs.declared.call.Party.TheVariants.{Controller, Node}
-use Rattle.csi_types.specs.Model.Number.{IsBefore}
-use Rattle.csi_types.specs.Model.Same.{same_text}
-use Rattle.csi_types.proofs.Equality.{same_text-tells}
-use Rattle.csi_lists.specs.Model.Members.{IsAmong}
-use Rattle.csi_lists.proofs.Members.{among-kept, in_filter, in-filter_map}
-use Rattle.csi_orchestrator.specs.Model.Thing.{Issued}
-use Rattle.csi_orchestrator.specs.Model.History.{Item, Sent, History}
-use Rattle.csi_orchestrator.specs.Model.Readings.{newest, lifetime, issued_in, issued_since, id_in, id_by, id_of}
-use Rattle.csi_orchestrator.specs.Public.Guards.{IsGuarded, HasId}
-use Rattle.csi_types.specs.Public.PluginThing.{Exists}
+use Rattle.csi_orchestrator.specs.Public.Guards.{HasId}
 use Rattle.csi_world.proofs.CallThings.{is_making}
 use Rattle.csi_world.proofs.Lifetimes.{calls_since, lifetime-is}
 use Rattle.csi_world.proofs.HeardReplies.{newest-found}

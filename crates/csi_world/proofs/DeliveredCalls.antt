@@ -1,30 +1,16 @@
 -- What becomes of the things when a sent call comes to its plugin, which carries it out, or doesn't, or doesn't have its volume; with what was
 -- forgotten told too. And what is given then.
-use Rattle.std.proofs.Common.{◌≡◌, ◌⊎◌, ℕ, ◌<◌, List, [], ◌∷◌, ◌++◌, Bool, true, false, Option, Some, None, option_map, IsTrue, refl, sym, ◌∙◌, ap, subst, inl, inr, ⊎_elim, arith}
-use Rattle.std.proofs.lemmas.Bool.{and_parts, false≢true, or_cases, or_from, or_left, or_right}
-use Rattle.std.proofs.lemmas.Option.{none-some, same_Some}
-use Rattle.csi_types.specs.declared.number.Number.{Number}
-use Rattle.csi_types.specs.declared.call.Call.{Call}
+use Rattle.csi_world.proofs.Words.{◌≡◌, ◌⊎◌, ℕ, ◌<◌, List, [], ◌∷◌, ◌++◌, Bool, true, false, Option, Some, None}
+use Rattle.csi_world.proofs.Words.{option_map, IsTrue, refl, sym, ◌∙◌, ap, subst, inl, inr, ⊎_elim, arith, Number, Call}
+use Rattle.csi_world.proofs.Words.{Kind, Party, Reply, PluginView, Delivery, Acts, Rests, Misses, CallBecomes, kept_of}
+use Rattle.csi_world.proofs.Words.{Kept, Frame, PluginThing, Exists, Attached, Staged, Published, ThingForm, HasId}
+use Rattle.csi_world.proofs.Words.{asked, IsAmong, reply_frame, same_text, same_party, Volume, ControllerState, Issued}
+use Rattle.csi_world.proofs.Words.{issued_in, NodeAt, World, IsAttachedWhileLive}
+use Rattle.csi_world.proofs.Lemmas.{and_parts, false≢true, or_cases, or_from, or_left, or_right, none-some, same_Some}
+use Rattle.csi_world.proofs.Lemmas.{among-last, same_text-tells, same_party-tells, same_plugin_thing-tells}
 use Rattle.csi_types.specs.declared.call.Call.TheVariants as calls
-use Rattle.csi_types.specs.declared.call.Kind.{Kind}
-use Rattle.csi_types.specs.declared.call.Party.{Party}
-use Rattle.csi_types.specs.declared.reply.Reply.{Reply}
 use Rattle.csi_types.specs.declared.status.Status.TheVariants.{Ok}
-use Rattle.csi_fence.specs.Public.Delivery.{PluginView, Delivery, Acts, Rests, Misses, CallBecomes, kept_of}
-use Rattle.csi_fence.specs.Model.Fence.{Kept}
-use Rattle.csi_types.specs.Model.Frame.{Frame}
-use Rattle.csi_types.specs.Public.PluginThing.{PluginThing, Exists, Attached, Staged, Published, ThingForm, HasId, asked}
-use Rattle.csi_lists.specs.Model.Members.{IsAmong}
-use Rattle.csi_lists.proofs.Members.{among-last}
-use Rattle.csi_types.specs.Model.Replies.{reply_frame}
-use Rattle.csi_types.specs.Model.Same.{same_text, same_party}
-use Rattle.csi_types.proofs.Equality.{same_text-tells, same_party-tells, same_plugin_thing-tells}
-use Rattle.csi_controller.specs.Model.State.{Volume, ControllerState}
 use Rattle.csi_controller.specs.Public.View as controllers
-use Rattle.csi_orchestrator.specs.Model.Thing.{Issued}
-use Rattle.csi_orchestrator.specs.Model.Readings.{issued_in}
-use Rattle.csi_world.specs.Model.World.{NodeAt, World}
-use Rattle.csi_world.specs.Model.Safe.{IsAttachedWhileLive}
 use Rattle.csi_world.proofs.WorldView.{party_of, over_at, plugin_view, view_of, ChangesOnly, acts-all, rests-all, misses-all}
 use Rattle.csi_world.proofs.GivenIds.{GivenId, HasNow, HasOld, HasName, AreGiven, now-given, gives-names, id-of_found, live-named, is_given, is_forgotten, gone-forgotten, not-forgotten, stays-gone, stays-forgotten, IsNewlyGiven, AreGivenNext}
 use Rattle.csi_world.proofs.CallThings.{IsOwn, plugin_thing_at, is_plugin_thing, is_of, is_making}
@@ -219,9 +205,7 @@ module _ (world : World) (controller : ControllerState) (nodes : List NodeAt) (c
         not-past (Exists name) is =
             let exists = exists-own name is in
             ap (λ k. is_past world.history k call.number) (sym is ∙ exists) ∙ well.so_far.timed.since (Exists call.name) call (fresh-now seen fresh exists)
-        not-past (Attached id node) is = refl
-        not-past (Staged id node) is = refl
-        not-past (Published id node target) is = refl
+        not-past thing is = refl
 
     -- a plugin carried the call out
     acts-effects : thing_seen world.controller call.party call.call ≡ Some plugin_thing → Acts plugin_thing (delivery_of call kind reply) (plugin_view world (party_of plugin_thing)) (plugin_view next (party_of plugin_thing))

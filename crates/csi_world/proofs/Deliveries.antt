@@ -1,41 +1,20 @@
 -- A world after a plugin got a frame that was sent.
-use Rattle.std.proofs.Common.{◌≡◌, ℕ, ◌<◌, ◌≤◌, List, Bool, true, false, cond, Option, Some, None, option_map, refl, sym, ◌∙◌, ap, subst, inl, ⊎_elim, arith}
-use Rattle.std.specs.Prelude.{nat_lt}
-use Rattle.std.proofs.lemmas.Bool.{false≢true, ltb-true, ltb-false}
-use Rattle.std.proofs.lemmas.Option.{none-some, same_Some}
-use Rattle.csi_types.specs.declared.number.Number.{Number}
-use Rattle.csi_types.specs.declared.capability.Capability.{Capability}
-use Rattle.csi_types.specs.declared.call.Call.{Call}
+use Rattle.csi_world.proofs.Words.{◌≡◌, ℕ, ◌<◌, ◌≤◌, List, Bool, true, false, cond, Option, Some, None, option_map}
+use Rattle.csi_world.proofs.Words.{refl, sym, ◌∙◌, ap, subst, inl, ⊎_elim, arith, nat_lt, Number, Capability, Call}
+use Rattle.csi_world.proofs.Words.{Kind, Party, Controller, Node, Body, Reply, CallBecomes, IsClosed, IsDelivered}
+use Rattle.csi_world.proofs.Words.{Frame, PluginThing, Exists, HasId, asked, IsAmong, kind_of, call_frame, reply_frame}
+use Rattle.csi_world.proofs.Words.{stale_reply, same_party, Volume, ControllerState, volume_with_id, Fenced}
+use Rattle.csi_world.proofs.Words.{answered_only, unanswered, ControllerSafetyLaw, NodeState, NodeSafetyLaw, Issued}
+use Rattle.csi_world.proofs.Words.{issued_in, NodeAt, World, node_state, with_node, with_frame, answered_by_node}
+use Rattle.csi_world.proofs.Words.{answered_by_plugin}
+use Rattle.csi_world.proofs.Lemmas.{false≢true, ltb-true, ltb-false, none-some, same_Some, among-find}
 use Rattle.csi_types.specs.declared.call.Call.TheVariants as calls
-use Rattle.csi_types.specs.declared.call.Kind.{Kind}
-use Rattle.csi_types.specs.declared.call.Party.{Party}
-use Rattle.csi_types.specs.declared.call.Party.TheVariants.{Controller, Node}
-use Rattle.csi_types.specs.declared.frame.Body.{Body}
 use Rattle.csi_types.specs.declared.frame.Body.TheVariants as bodies
-use Rattle.csi_types.specs.declared.reply.Reply.{Reply}
-use Rattle.csi_fence.specs.Public.Delivery.{CallBecomes, IsClosed, IsDelivered}
-use Rattle.csi_types.specs.Model.Frame.{Frame}
-use Rattle.csi_types.specs.Public.PluginThing.{PluginThing, Exists, HasId, asked}
-use Rattle.csi_lists.specs.Model.Members.{IsAmong}
-use Rattle.csi_types.specs.Model.Call.{kind_of}
-use Rattle.csi_types.specs.Model.Replies.{call_frame, reply_frame, stale_reply}
-use Rattle.csi_types.specs.Model.Same.{same_party}
-use Rattle.csi_controller.specs.Model.State.{Volume, ControllerState}
-use Rattle.csi_controller.specs.Public.State.{volume_with_id}
-use Rattle.csi_fence.specs.Model.Fenced.{Fenced, answered_only, unanswered}
 use Rattle.csi_controller.specs.Model.Fenced as controller
-use Rattle.csi_controller.specs.Public.Safe.{ControllerSafetyLaw}
 use Rattle.csi_controller.specs.Public.View as controllers
-use Rattle.csi_node.specs.Model.State.{NodeState}
 use Rattle.csi_node.specs.Model.Fenced as node
-use Rattle.csi_node.specs.Public.Safe.{NodeSafetyLaw}
 use Rattle.csi_node.specs.Public.View as nodes
-use Rattle.csi_orchestrator.specs.Model.Thing.{Issued}
-use Rattle.csi_orchestrator.specs.Model.Readings.{issued_in}
-use Rattle.csi_world.specs.Model.World.{NodeAt, World, node_state, with_node, with_frame}
-use Rattle.csi_world.specs.Model.Step.{answered_by_node, answered_by_plugin}
 use Rattle.csi_world.proofs.WorldView.{party_of, node_view, over_at, plugin_view, view_of, ChangesOnly, closed-all}
-use Rattle.csi_lists.proofs.Members.{among-find}
 use Rattle.csi_world.proofs.GivenIds.{GivenId, HasNow, HasOld, HasName, AreOf, live-now, id-of_found, AreGivenNext, given-next}
 use Rattle.csi_world.proofs.CallThings.{IsOfThing, plugin_thing_at, is_of, of_thing}
 use Rattle.csi_world.proofs.Lifetimes.{latest, calls_since, since-sent}

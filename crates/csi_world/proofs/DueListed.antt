@@ -1,24 +1,13 @@
 -- A call that is due for a node is due at one that is listed.
-use Rattle.std.proofs.Common.{◌≡◌, ◌≢◌, ◌⊎◌, ℕ, List, [], ◌∷◌, find, Bool, true, false, cond, not, Option, Some, None, ◌&&◌, refl, sym, ◌∙◌, ap, subst, inl, inr}
-use Rattle.std.specs.Prelude.{option_and_then}
-use Rattle.std.proofs.lemmas.Bool.{and_from, false≢true}
-use Rattle.std.proofs.lemmas.Option.{none-some, same_Some}
-use Rattle.csi_types.specs.declared.number.Number.{Number}
+use Rattle.csi_world.proofs.Words.{◌≡◌, ◌≢◌, ◌⊎◌, ℕ, List, [], ◌∷◌, find, Bool, true, false, cond, not, Option, Some}
+use Rattle.csi_world.proofs.Words.{None, ◌&&◌, refl, sym, ◌∙◌, ap, subst, inl, inr, option_and_then, Number, Controller}
+use Rattle.csi_world.proofs.Words.{Node, same_text, Arguments, Usage, Thing, Known, Yes, No, Maybe, Issued, touches}
+use Rattle.csi_world.proofs.Words.{is_doing, is_yes, is_no, Goal, Create, Use, Stop, Delete, Sent, History, with_items}
+use Rattle.csi_world.proofs.Words.{known, known_by, has_success, id_of, Due, call_for, targets_in_use, due_for}
+use Rattle.csi_world.proofs.Lemmas.{and_from, false≢true, none-some, same_Some, same_text-tells}
 use Rattle.csi_types.specs.declared.call.Call.TheVariants as calls
 use Rattle.csi_types.specs.declared.call.Kind.TheVariants as kinds
-use Rattle.csi_types.specs.declared.call.Party.TheVariants.{Controller, Node}
-use Rattle.csi_types.specs.Model.Same.{same_text}
-use Rattle.csi_types.proofs.Equality.{same_text-tells}
-use Rattle.csi_orchestrator.specs.declared.request.Arguments.{Arguments}
-use Rattle.csi_orchestrator.specs.declared.request.Usage.{Usage}
-use Rattle.csi_orchestrator.specs.declared.thing.Thing.{Thing}
 use Rattle.csi_orchestrator.specs.declared.thing.Thing.TheVariants.{Exists, Attached, Staged, Published}
-use Rattle.csi_orchestrator.specs.declared.thing.Known.{Known}
-use Rattle.csi_orchestrator.specs.declared.thing.Known.TheVariants.{Yes, No, Maybe}
-use Rattle.csi_orchestrator.specs.Model.Thing.{Issued, touches, is_doing, is_yes, is_no}
-use Rattle.csi_orchestrator.specs.Model.History.{Goal, Create, Use, Stop, Delete, Sent, History, with_items}
-use Rattle.csi_orchestrator.specs.Model.Readings.{known, known_by, has_success, id_of}
-use Rattle.csi_orchestrator.specs.Model.Due.{Due, call_for, targets_in_use, due_for}
 use Rattle.csi_world.proofs.DueRanks.{use_kind, stop_kind, stop-is, issued_for, without-id, use-create, stop-create, delete-create}
 use Rattle.csi_world.proofs.Lifetimes.{calls_for}
 use Rattle.csi_world.proofs.RowsShown.{HasRows, IsListed, published-listed, staged-listed}

@@ -1,29 +1,16 @@
 -- How many calls are left until what is wanted of a volume is so, or is undone: by the call that is due.
-use Rattle.std.proofs.Common.{◌≡◌, ℕ, suc, ◌≤◌, List, [], ◌∷◌, find, Bool, true, false, cond, not, Option, Some, None, ◌&&◌, refl, sym, ◌∙◌, ap, subst, inl, inr, arith}
-use Rattle.std.specs.Prelude.{option_and_then}
-use Rattle.std.proofs.lemmas.Bool.{and_from, false≢true}
-use Rattle.std.proofs.lemmas.Option.{none-some, same_Some}
-use Rattle.csi_types.specs.declared.number.Number.{Number}
+use Rattle.csi_world.proofs.Words.{◌≡◌, ℕ, suc, ◌≤◌, List, [], ◌∷◌, find, Bool, true, false, cond, not, Option, Some}
+use Rattle.csi_world.proofs.Words.{None, ◌&&◌, refl, sym, ◌∙◌, ap, subst, inl, inr, arith, option_and_then, Number}
+use Rattle.csi_world.proofs.Words.{Kind, Controller, Node, Status, kind_of, is_ok_status, same_text, same_number}
+use Rattle.csi_world.proofs.Words.{Arguments, Usage, Thing, Known, Yes, No, Maybe, Issued, touches, does, is_doing}
+use Rattle.csi_world.proofs.Words.{is_yes, is_no, Goal, Create, Use, Stop, Delete, Sent, Accepted, History, with_items}
+use Rattle.csi_world.proofs.Words.{known, known_by, has_success, is_success_of, id_of, Due, call_for, targets_in_use}
+use Rattle.csi_world.proofs.Words.{due_leave, due_stop, due_kind, due_for}
+use Rattle.csi_world.proofs.Lemmas.{and_from, false≢true, none-some, same_Some, same_text-tells, same_number-tells}
+use Rattle.csi_world.proofs.Lemmas.{any-then, then-any}
 use Rattle.csi_types.specs.declared.call.Call.TheVariants as calls
-use Rattle.csi_types.specs.declared.call.Kind.{Kind}
 use Rattle.csi_types.specs.declared.call.Kind.TheVariants as kinds
-use Rattle.csi_types.specs.declared.call.Party.TheVariants.{Controller, Node}
-use Rattle.csi_types.specs.declared.status.Status.{Status}
-use Rattle.csi_types.specs.Model.Call.{kind_of}
-use Rattle.csi_types.specs.Model.Reply.{is_ok_status}
-use Rattle.csi_types.specs.Model.Same.{same_text, same_number}
-use Rattle.csi_types.proofs.Equality.{same_text-tells, same_number-tells}
-use Rattle.csi_lists.proofs.Tests.{any-then, then-any}
-use Rattle.csi_orchestrator.specs.declared.request.Arguments.{Arguments}
-use Rattle.csi_orchestrator.specs.declared.request.Usage.{Usage}
-use Rattle.csi_orchestrator.specs.declared.thing.Thing.{Thing}
 use Rattle.csi_orchestrator.specs.declared.thing.Thing.TheVariants.{Exists, Attached, Staged, Published}
-use Rattle.csi_orchestrator.specs.declared.thing.Known.{Known}
-use Rattle.csi_orchestrator.specs.declared.thing.Known.TheVariants.{Yes, No, Maybe}
-use Rattle.csi_orchestrator.specs.Model.Thing.{Issued, touches, does, is_doing, is_yes, is_no}
-use Rattle.csi_orchestrator.specs.Model.History.{Goal, Create, Use, Stop, Delete, Sent, Accepted, History, with_items}
-use Rattle.csi_orchestrator.specs.Model.Readings.{known, known_by, has_success, is_success_of, id_of}
-use Rattle.csi_orchestrator.specs.Model.Due.{Due, call_for, targets_in_use, due_leave, due_stop, due_kind, due_for}
 use Rattle.csi_world.proofs.Lifetimes.{calls_for}
 
 -- ---- what is known once a success was heard of the call that was sent last
@@ -147,16 +134,12 @@ use_kind attached staged published =
 -- once it is attached
 when-attached : (s p : Known) → rank_if (use_kind Yes s p) ≤ 5
 when-attached Yes Yes = omega arith
-when-attached Yes No = omega arith
-when-attached Yes Maybe = omega arith
-when-attached No p = omega arith
-when-attached Maybe p = omega arith
+when-attached s p = omega arith
 
 -- and staged
 when-staged : (p : Known) → rank_if (use_kind Yes Yes p) ≤ 4
 when-staged Yes = omega arith
-when-staged No = omega arith
-when-staged Maybe = omega arith
+when-staged p = omega arith
 
 -- ---- a stop
 
@@ -179,19 +162,13 @@ stop-is history name node target = ap (cond (not (is_no (known history (Publishe
 
 -- once it is unpublished
 when-unpublished : (ts : List (List ℕ)) (s a : Known) → rank_if (stop_kind No ts s a) ≤ 2
-when-unpublished (t ∷ ts) s a = omega arith
-when-unpublished [] Yes a = omega arith
-when-unpublished [] Maybe a = omega arith
 when-unpublished [] No Yes = omega arith
-when-unpublished [] No Maybe = omega arith
-when-unpublished [] No No = omega arith
+when-unpublished ts s a = omega arith
 
 -- and unstaged
 when-unstaged : (ts : List (List ℕ)) (a : Known) → rank_if (stop_kind No ts No a) ≤ 1
-when-unstaged (t ∷ ts) a = omega arith
 when-unstaged [] Yes = omega arith
-when-unstaged [] Maybe = omega arith
-when-unstaged [] No = omega arith
+when-unstaged ts a = omega arith
 
 -- and detached
 when-detached : (ts : List (List ℕ)) → rank_if (stop_kind No ts No No) ≤ 0

@@ -1,28 +1,16 @@
 -- A floor: a session that each plugin which is there has reached, and the orchestrator's last number. No call of an earlier session is carried out,
 -- whoever sent it.
-use Rattle.std.proofs.Common.{ℕ, ◌<◌, ◌≤◌, List, map, not, Bool, true, false, cond, sym, ◌∙◌, subst, ⊎_elim, arith}
-use Rattle.csi_types.specs.declared.number.Number.{Number}
-use Rattle.csi_types.specs.declared.call.Party.{Party}
-use Rattle.csi_types.specs.declared.frame.Body.{Body}
+use Rattle.csi_world.proofs.Words.{ℕ, ◌<◌, ◌≤◌, List, map, not, Bool, true, false, cond, sym, ◌∙◌, subst, ⊎_elim, arith}
+use Rattle.csi_world.proofs.Words.{Number, Party, Body, kind_of, Config, same_text, IsAmong, Kept, Fenced, fenced_parts}
+use Rattle.csi_world.proofs.Words.{ControllerState, NodeState, volume_of, Item, last_number, NodeAt, World, with_state}
+use Rattle.csi_world.proofs.Words.{new_node, with_new_node, without_node, with_history}
+use Rattle.csi_world.proofs.Lemmas.{among-either, among-filter, among-map, Carried, no_room, has_room, was_carried}
+use Rattle.csi_world.proofs.Lemmas.{kept_of, keep-session, changed-session}
 use Rattle.csi_types.specs.declared.frame.Body.TheVariants as bodies
-use Rattle.csi_types.specs.Model.Call.{kind_of}
-use Rattle.csi_types.specs.Model.Config.{Config}
-use Rattle.csi_types.specs.Model.Same.{same_text}
-use Rattle.csi_lists.specs.Model.Members.{IsAmong}
-use Rattle.csi_lists.proofs.Members.{among-either, among-filter, among-map}
-use Rattle.csi_fence.specs.Model.Fence.{Kept}
-use Rattle.csi_fence.specs.Model.Fenced.{Fenced, fenced_parts}
-use Rattle.csi_controller.specs.Model.State.{ControllerState}
 use Rattle.csi_controller.specs.Model.Table as controller_table
 use Rattle.csi_controller.specs.Model.Fenced as controllers
-use Rattle.csi_node.specs.Model.State.{NodeState, volume_of}
 use Rattle.csi_node.specs.Model.Table as node_table
 use Rattle.csi_node.specs.Model.Fenced as nodes
-use Rattle.csi_node.proofs.CarriedOut.{Carried, no_room, has_room, was_carried, kept_of}
-use Rattle.csi_node.proofs.LastCalls.{keep-session, changed-session}
-use Rattle.csi_orchestrator.specs.Model.History.{Item}
-use Rattle.csi_orchestrator.specs.Model.Readings.{last_number}
-use Rattle.csi_world.specs.Model.World.{NodeAt, World, with_state, new_node, with_new_node, without_node, with_history}
 use Rattle.csi_world.proofs.JudgedCalls.{call-so, changed-sessions}
 
 -- what is below a floor is below what has reached it

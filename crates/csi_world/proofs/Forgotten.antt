@@ -1,24 +1,12 @@
 -- A world by its things, where what a controller forgot is spent: no call of it will be carried out. No controller can know that of a name.
-use Rattle.std.proofs.Common.{◌≡◌, ℕ, List, Bool, true, false, None, option_map, sym, ◌∙◌, ap, ⊎_elim, ◌==◌, ◌&&◌, ◌||◌}
-use Rattle.std.specs.Prelude.{is_some}
-use Rattle.std.proofs.lemmas.Bool.{and_parts, and_left, eqb-true, false≢true, or_cases, or_left, or_right}
-use Rattle.csi_types.specs.declared.holding.Holding.{Holding}
-use Rattle.csi_fence.specs.Public.Delivery.{PluginView, IsClosed}
-use Rattle.csi_types.specs.Public.PluginThing.{PluginThing, Exists, Attached, Staged, Published, HasId, AttachedAs}
-use Rattle.csi_types.specs.Model.Same.{same_text}
-use Rattle.csi_types.proofs.Equality.{same_text-tells}
-use Rattle.csi_lists.specs.Model.Members.{IsAmong}
-use Rattle.csi_lists.proofs.Members.{among-find, none_passes}
-use Rattle.csi_lists.proofs.Options.{none-where}
-use Rattle.csi_lists.proofs.Searches.{find-none, find-passes}
-use Rattle.csi_controller.specs.Model.State.{Volume, ControllerState, live_volume, is_held_at, holding_at}
-use Rattle.csi_controller.specs.Public.State.{volume_with_id}
+use Rattle.csi_world.proofs.Words.{◌≡◌, ℕ, List, Bool, true, false, None, option_map, sym, ◌∙◌, ap, ⊎_elim, ◌==◌, ◌&&◌}
+use Rattle.csi_world.proofs.Words.{◌||◌, is_some, Holding, PluginView, IsClosed, PluginThing, Exists, Attached, Staged}
+use Rattle.csi_world.proofs.Words.{Published, HasId, AttachedAs, same_text, IsAmong, Volume, ControllerState}
+use Rattle.csi_world.proofs.Words.{live_volume, is_held_at, holding_at, volume_with_id, World, IsAttachedWhileLive}
+use Rattle.csi_world.proofs.Words.{Number, IsBefore, is_over}
+use Rattle.csi_world.proofs.Lemmas.{and_parts, and_left, eqb-true, false≢true, or_cases, or_left, or_right}
+use Rattle.csi_world.proofs.Lemmas.{same_text-tells, among-find, none_passes, none-where, find-none, find-passes}
 use Rattle.csi_controller.specs.Public.View as controllers
-use Rattle.csi_world.specs.Model.World.{World}
-use Rattle.csi_world.specs.Model.Safe.{IsAttachedWhileLive}
-use Rattle.csi_types.specs.declared.number.Number.{Number}
-use Rattle.csi_types.specs.Model.Number.{IsBefore}
-use Rattle.csi_fence.specs.Model.Fence.{is_over}
 use Rattle.csi_world.proofs.GivenIds.{GivenId, AreGiven, AreOf, now-given, gone-unnamed, is_given, is_forgotten}
 use Rattle.csi_world.proofs.Lifetimes.{over-before}
 use Rattle.csi_world.proofs.WorldView.{over_at, view_with, view_of}
@@ -26,9 +14,7 @@ use Rattle.csi_world.proofs.WorldView.{over_at, view_with, view_of}
 -- the number is of a session before the one in which the orchestrator forgot the name, where the thing is whether its volume is there
 abbrev pub is_past_name : (PluginThing → ℕ) → PluginThing → Number → Bool
 is_past_name over (Exists name) number = is_over (over (Exists name)) number
-is_past_name over (Attached id node) number = false
-is_past_name over (Staged id node) number = false
-is_past_name over (Published id node target) number = false
+is_past_name over thing number = false
 
 -- no call of the number will be carried out for the thing, since it was forgotten by the controller or by the orchestrator
 abbrev pub is_told : List GivenId → World → PluginThing → Number → Bool
@@ -50,9 +36,7 @@ told_by given world = told_with given world (over_at world)
 -- so it is of numbers before it
 closed-past : (over : PluginThing → ℕ) (thing : PluginThing) (earlier later : Number) → IsBefore earlier later → is_past_name over thing later ≡ true → is_past_name over thing earlier ≡ true
 closed-past over (Exists name) earlier later before past = over-before (over (Exists name)) earlier later before past
-closed-past over (Attached id node) earlier later before past = past
-closed-past over (Staged id node) earlier later before past = past
-closed-past over (Published id node target) earlier later before past = past
+closed-past over thing earlier later before past = past
 
 -- what came before a spent number is spent
 pub closed-told : (given : List GivenId) (world : World) → IsClosed (view_of world) → IsClosed (told_by given world)

@@ -1,32 +1,21 @@
 -- What a search by halving tells in a list that is in order: the place of a row by its id, and where something is noted of a thing.
-use Rattle.std.proofs.Common.{◌≡◌, ◌≤◌, ◌<◌, ℕ, zero, suc, List, [], ◌∷◌, length, get_or, Bool, true, false, Result, Ok, Err, nat_lt, refl, sym, ◌∙◌, ap, inl, inr, arith, position, ◌==◌, ◌+◌, subst}
+use Rattle.csi_world.proofs.Words.{◌≡◌, ◌≤◌, ◌<◌, ℕ, zero, suc, List, [], ◌∷◌, length, get_or, Bool, true, false}
+use Rattle.csi_world.proofs.Words.{Result, Ok, Err, nat_lt, refl, sym, ◌∙◌, ap, inl, inr, arith, position, ◌==◌, ◌+◌}
+use Rattle.csi_world.proofs.Words.{subst, IsAmong, EachTwo, AtMostOne, ControllerRow, list_any, Thing, Known}
+use Rattle.csi_world.proofs.Words.{thing_order, IsInOrder, same_thing, is_entry_of}
+use Rattle.csi_world.proofs.Lemmas.{nat_tests, eq-eqb, false_from_ne_true, each-at, each-place, FirstAt-only, at-index}
+use Rattle.csi_world.proofs.Lemmas.{position-first, position-none, rising-one, each_of, find-none, any-then, then-any}
+use Rattle.csi_world.proofs.Lemmas.{none-among}
 use Rattle.std.specs.Result.{is_ok, result_ok}
-use Rattle.std.proofs.lemmas.Bool.Decides.{nat_tests}
 use Rattle.std.specs.List.Sorted.{IsSearchInRange, IsBinarySearchResult, IsNonDecreasingBy, IsSortedBy}
 use Rattle.std.specs.Ordering.{ordering_index, nat_cmp, is_lt, ordering_reverse}
 use Rattle.std.specs.declared.cmp.Ordering.{Ordering}
 use Rattle.std.specs.declared.cmp.Ordering.TheVariants.{Less, Equal, Greater}
-use Rattle.csi_lists.specs.Model.Members.{IsAmong, EachTwo}
-use Rattle.csi_lists.specs.Public.Places.{AtMostOne}
-use Rattle.std.proofs.lemmas.Bool.{eq-eqb, false_from_ne_true}
 use Rattle.std.proofs.lemmas.Cmp.{ranked, tied_itself}
-use Rattle.csi_lists.proofs.Each.{each-at, each-place}
-use Rattle.csi_lists.proofs.Places.{FirstAt-only, at-index, position-first, position-none}
-use Rattle.csi_controller.specs.declared.row.ControllerRow.{ControllerRow}
 use Rattle.csi_controller.specs.Public.Core.{AreRisingRows}
-use Rattle.csi_controller.proofs.Sound.{rising-one}
-use Rattle.std.specs.List.{list_any}
 use Rattle.std.specs.Cmp.{both_ways}
 use Rattle.std.proofs.lemmas.List.Sorted.{searchable_from_sorted}
-use Rattle.csi_lists.proofs.Members.{each_of}
-use Rattle.csi_lists.proofs.Searches.{find-none}
-use Rattle.csi_lists.proofs.Tests.{any-then, then-any, none-among}
-use Rattle.csi_orchestrator.specs.declared.thing.Thing.{Thing}
-use Rattle.csi_orchestrator.specs.declared.thing.Known.{Known}
-use Rattle.csi_orchestrator.specs.Public.Listing.{thing_order, IsInOrder}
-use Rattle.csi_orchestrator.specs.Model.Thing.{same_thing}
 use Rattle.csi_orchestrator.proofs.ThingOrder.{order-total, order-same}
-use Rattle.csi_world.specs.Private.Listed.{is_entry_of}
 use Rattle.csi_world.proofs.MarksTold.{same-itself}
 use Rattle.csi_world.proofs.NamedCalls.{same-tells}
 

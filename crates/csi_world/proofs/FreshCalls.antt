@@ -1,37 +1,19 @@
 -- A call with a new number is carried out by its plugin, which answers it by its table.
-use Rattle.std.proofs.Common.{◌≡◌, ℕ, ◌≤◌, List, [], ◌∷◌, ◌++◌, Bool, true, false, cond, Option, Some, None, option_map, is_some, refl, sym, ◌∙◌, ap, subst, ◌==◌, arith}
-use Rattle.std.proofs.lemmas.Bool.Decides.{nat_tests}
-use Rattle.csi_types.specs.declared.number.Number.{Number}
-use Rattle.csi_types.specs.declared.call.Call.{Call}
-use Rattle.csi_types.specs.declared.call.Party.{Party}
-use Rattle.csi_types.specs.declared.call.Party.TheVariants.{Controller, Node}
-use Rattle.csi_types.specs.declared.reply.Reply.{Reply}
-use Rattle.csi_types.specs.Model.Call.{kind_of}
-use Rattle.csi_types.specs.Model.Config.{Config}
-use Rattle.csi_types.specs.Model.Frame.{Frame}
-use Rattle.csi_types.specs.Model.Number.{IsBefore}
-use Rattle.csi_types.specs.Model.Replies.{call_frame, reply_frame}
-use Rattle.csi_types.specs.Model.Same.{same_text}
-use Rattle.csi_types.proofs.Equality.{same_text-tells}
-use Rattle.csi_lists.specs.Model.Members.{IsAmong}
-use Rattle.csi_lists.proofs.Members.{among-find, among-filter}
-use Rattle.csi_fence.specs.Public.Delivery.{last_of}
+use Rattle.csi_world.proofs.Words.{◌≡◌, ℕ, ◌≤◌, List, [], ◌∷◌, ◌++◌, Bool, true, false, cond, Option, Some, None}
+use Rattle.csi_world.proofs.Words.{option_map, is_some, refl, sym, ◌∙◌, ap, subst, ◌==◌, arith, Number, Call, Party}
+use Rattle.csi_world.proofs.Words.{Controller, Node, Reply, kind_of, Config, Frame, IsBefore, call_frame, reply_frame}
+use Rattle.csi_world.proofs.Words.{same_text, IsAmong, last_of, is_over, begins, Fenced, in_session, Volume}
+use Rattle.csi_world.proofs.Words.{ControllerState, is_row_for, row_for, NodeState, AnsweredVolume, staged_of}
+use Rattle.csi_world.proofs.Words.{volume_of, row_with_id, row_of_volume, Issued, frame_of, World, node_state}
+use Rattle.csi_world.proofs.Words.{with_node, with_frame, answered_by_node, answered_by_plugin, called, called_at}
+use Rattle.csi_world.proofs.Lemmas.{nat_tests, same_text-tells, among-find, among-filter}
 use Rattle.csi_fence.specs.Public.Fence.{IsFresh}
 use Rattle.csi_fence.specs.Public.Lawful.{IsLetThrough}
-use Rattle.csi_fence.specs.Model.Fence.{Kept, is_over, begins}
-use Rattle.csi_fence.specs.Model.Fenced.{Fenced, in_session}
 use Rattle.csi_fence.proofs.LetThrough.{fresh-after, is_carried_out}
-use Rattle.csi_controller.specs.Model.State.{Volume, ControllerState, is_row_for, row_for}
 use Rattle.csi_controller.specs.Model.Table as controller_table
 use Rattle.csi_controller.specs.Model.Fenced as controllers
-use Rattle.csi_node.specs.Model.State.{NodeState, AnsweredVolume, staged_of, volume_of, row_with_id, row_of_volume}
 use Rattle.csi_node.specs.Model.Table as node_table
 use Rattle.csi_node.specs.Model.Fenced as nodes
-use Rattle.csi_orchestrator.specs.Model.Thing.{Issued}
-use Rattle.csi_orchestrator.specs.Public.Steps.{frame_of}
-use Rattle.csi_world.specs.Model.World.{World, node_state, with_node, with_frame}
-use Rattle.csi_world.specs.Model.Step.{answered_by_node, answered_by_plugin}
-use Rattle.csi_world.specs.Model.After.{called, called_at}
 use Rattle.csi_world.proofs.PluginsReached.{found-at, node_state-same, node_state-other}
 use Rattle.csi_world.proofs.HeardNumbers.{ControllerHeard, NodeHeard, HaveHeard, up-before}
 
@@ -42,11 +24,6 @@ later-session last number before = grind (arith, nat_tests)
 -- so a plugin that heard of nothing later doesn't take it as over
 not-over : (session : ℕ) (last number : Number) → session ≤ last.session → IsBefore last number → is_over session number ≡ false
 not-over session last number heard before = let later = later-session last number before in grind (arith, nat_tests)
-
--- a number that comes after each one that is kept is fresh
-fresh-kept : (number : Number) (kept : Option Kept) → ((k : Kept) → kept ≡ Some k → IsBefore k.number number) → IsFresh (last_of kept) number
-fresh-kept number None before = refl
-fresh-kept number (Some k) before = fresh-after k.number number (before k refl)
 
 -- ---- the controller
 

@@ -1,20 +1,12 @@
 -- Which name was given which id: pairs that stay, whatever becomes of the volumes, and which of them are the names' ids now, since the
 -- names were forgotten last; and how they agree with a controller.
-use Rattle.std.proofs.Common.{◌≡◌, ◌⊎◌, ℕ, ◌<◌, ◌≤◌, List, ◌∷◌, Bool, true, false, not, Option, Some, None, refl, sym, ◌∙◌, ap, subst, inl, inr, ⊎_elim, ◌==◌, ◌&&◌, arith}
-use Rattle.std.specs.Prelude.{is_some}
-use Rattle.std.specs.List.{list_any}
-use Rattle.std.proofs.lemmas.Bool.{and_parts, and_from, eqb-true, eq-eqb, false≢true, false_from_ne_true}
-use Rattle.std.proofs.lemmas.Option.{none-some, same_Some}
-use Rattle.csi_types.specs.Public.PluginThing.{PluginThing, Exists, Attached, Staged, Published}
-use Rattle.csi_types.specs.Model.Same.{same_text}
-use Rattle.csi_types.proofs.Equality.{same_text-tells}
-use Rattle.csi_lists.specs.Model.Members.{IsAmong}
-use Rattle.csi_lists.proofs.Members.{among-find, none_passes}
-use Rattle.csi_lists.proofs.Options.{none-where}
-use Rattle.csi_lists.proofs.Searches.{find-passes, find-and}
-use Rattle.csi_lists.proofs.Tests.{any-then, then-any}
-use Rattle.csi_controller.specs.Model.State.{Volume, ControllerState, volume_named, live_volume}
-use Rattle.csi_controller.specs.Public.State.{volume_with_id}
+use Rattle.csi_world.proofs.Words.{◌≡◌, ◌⊎◌, ℕ, ◌<◌, ◌≤◌, List, ◌∷◌, Bool, true, false, not, Option, Some, None, refl}
+use Rattle.csi_world.proofs.Words.{sym, ◌∙◌, ap, subst, inl, inr, ⊎_elim, ◌==◌, ◌&&◌, arith, is_some, list_any}
+use Rattle.csi_world.proofs.Words.{PluginThing, Exists, Attached, Staged, Published, same_text, IsAmong, Volume}
+use Rattle.csi_world.proofs.Words.{ControllerState, volume_named, live_volume, volume_with_id}
+use Rattle.csi_world.proofs.Lemmas.{and_parts, and_from, eqb-true, eq-eqb, false≢true, false_from_ne_true, none-some}
+use Rattle.csi_world.proofs.Lemmas.{same_Some, same_text-tells, among-find, none_passes, none-where, find-passes}
+use Rattle.csi_world.proofs.Lemmas.{find-and, any-then, then-any}
 use Rattle.csi_controller.specs.Public.View as controllers
 
 -- an id that a name was given, and whether it is the name's id now: it isn't once the name was forgotten
@@ -88,16 +80,6 @@ pub id-named : (controller : ControllerState) (given : List GivenId) (name : Lis
     → volume_with_id id controller ≡ Some volume → volume.name ≡ name
 id-named controller given name id volume are of has is =
     are.one_name volume.name name id (subst (HasName given volume.name) (id-of_found id controller volume is) (of.listed id volume is)) has
-
--- where no volume has the name, none has the id that was given to it
-pub unnamed-gone : (controller : ControllerState) (given : List GivenId) (name : List ℕ) (id : ℕ) → AreGiven given → AreOf controller given → HasName given name id
-    → volume_named name controller ≡ None → volume_with_id id controller ≡ None
-unnamed-gone controller given name id are of has none = by (volume_with_id id controller) refl
-  where
-    by : (o : Option Volume) → volume_with_id id controller ≡ o → o ≡ None
-    by None e = refl
-    by (Some volume) e =
-        absurd (none-some volume (sym none ∙ ap (λ n. volume_named n controller) (sym (id-named controller given name id volume are of has e)) ∙ of.names.by_name id volume e))
 
 -- a live volume of a name is found so
 pub live-named : (controller : ControllerState) (volume : Volume) → volume_named volume.name controller ≡ Some volume → volume.is_live ≡ true → controllers.live_named volume.name controller ≡ Some volume

@@ -1,21 +1,12 @@
 -- The calls that are due for goals, and how goals end.
-use Rattle.std.proofs.Common.{◌≡◌, ◌⊎◌, ℕ, List, ◌∷◌, true, Option, Some, None, refl, sym, ◌∙◌, ap, inl, inr}
-use Rattle.std.specs.Prelude.{is_some, IsSome, option_and_then}
-use Rattle.std.proofs.lemmas.Bool.{false≢true}
-use Rattle.std.proofs.lemmas.Option.{none-some, same_Some}
-use Rattle.csi_types.specs.declared.call.Kind.{Kind}
+use Rattle.csi_world.proofs.Words.{◌≡◌, ◌⊎◌, ℕ, List, ◌∷◌, true, Option, Some, None, refl, sym, ◌∙◌, ap, inl, inr}
+use Rattle.csi_world.proofs.Words.{is_some, IsSome, option_and_then, Kind, Controller, Node, Arguments, Usage, Yes, No}
+use Rattle.csi_world.proofs.Words.{Goal, Create, Use, Stop, Delete, Item, Noted, History, with_items, goal_of, id_of}
+use Rattle.csi_world.proofs.Words.{known, Due, call_for, due_kind, due_for, due_call, is_forward, is_forward_due, World}
+use Rattle.csi_world.proofs.Words.{is_at_rest, node_in, IsStopped, WasRefused}
+use Rattle.csi_world.proofs.Lemmas.{false≢true, none-some, same_Some}
 use Rattle.csi_types.specs.declared.call.Kind.TheVariants as kinds
-use Rattle.csi_types.specs.declared.call.Party.TheVariants.{Controller, Node}
-use Rattle.csi_orchestrator.specs.declared.request.Arguments.{Arguments}
-use Rattle.csi_orchestrator.specs.declared.request.Usage.{Usage}
 use Rattle.csi_orchestrator.specs.declared.thing.Thing.TheVariants as things
-use Rattle.csi_orchestrator.specs.declared.thing.Known.TheVariants.{Yes, No}
-use Rattle.csi_orchestrator.specs.Model.History.{Goal, Create, Use, Stop, Delete, Item, Noted, History, with_items}
-use Rattle.csi_orchestrator.specs.Model.Readings.{goal_of, id_of, known}
-use Rattle.csi_orchestrator.specs.Model.Due.{Due, call_for, due_kind, due_for, due_call}
-use Rattle.csi_orchestrator.specs.Model.Moves.{is_forward, is_forward_due}
-use Rattle.csi_world.specs.Model.World.{World}
-use Rattle.csi_world.specs.Public.Settling.{is_at_rest, node_in, IsStopped, WasRefused}
 use Rattle.csi_world.proofs.CallThings.{is_making}
 use Rattle.csi_world.proofs.GoalsMet.{IsMet, met-where-none, goal-id, use-unmet}
 use Rattle.csi_world.proofs.RowsShown.{HasRows, have-ids}

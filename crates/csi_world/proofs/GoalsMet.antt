@@ -1,37 +1,25 @@
 -- Where no call is due what was wanted is so, and a volume keeps its id; and a use that is wanted isn't so yet.
-use Rattle.std.proofs.Common.{◌≡◌, ◌≢◌, ℕ, List, [], ◌∷◌, filter, filter_map, find, Bool, true, false, cond, not, Option, Some, None, option_map, ◌&&◌, refl, sym, ◌∙◌, ap, subst}
-use Rattle.std.specs.Prelude.{option_and_then}
-use Rattle.std.specs.Option.{option_or}
-use Rattle.std.proofs.lemmas.Option.{none-some, same_Some}
+use Rattle.csi_world.proofs.Words.{◌≡◌, ◌≢◌, ℕ, List, [], ◌∷◌, filter, filter_map, find, Bool, true, false, cond, not}
+use Rattle.csi_world.proofs.Words.{Option, Some, None, option_map, ◌&&◌, refl, sym, ◌∙◌, ap, subst, option_and_then}
+use Rattle.csi_world.proofs.Words.{option_or, Status, is_ok_status, same_text, Arguments, Usage, Thing, Known, Yes, No}
+use Rattle.csi_world.proofs.Words.{Maybe, Issued, touches, is_yes, is_no, thing_of, Goal, Create, Use, Stop, Delete}
+use Rattle.csi_world.proofs.Words.{Accepted, Closed, Noted, History, with_items, known, id_of, goal_of, open_call}
+use Rattle.csi_world.proofs.Words.{issued_of, distinct, call_for, targets_in_use, published_target, due_for}
+use Rattle.csi_world.proofs.Words.{NodeEntryShown, RowShown, row_of, mark_in, mark_of, publication_known, goal_in}
+use Rattle.csi_world.proofs.Words.{goal_shown, IsWellFormed, IsStandingIf, IsSteadyRowIf, HasMarks, IsAtWork, IsAtRest}
+use Rattle.csi_world.proofs.Words.{AreMarked, IsStopped}
+use Rattle.csi_world.proofs.Lemmas.{none-some, same_Some, some_is_not_none, one-found, closed-follows, noted-follows}
+use Rattle.csi_world.proofs.Lemmas.{each_of, among-find}
 use Rattle.csi_types.specs.declared.call.Kind.TheVariants as kinds
-use Rattle.csi_types.specs.declared.status.Status.{Status}
-use Rattle.csi_types.specs.Model.Reply.{is_ok_status}
-use Rattle.csi_types.specs.Model.Same.{same_text}
-use Rattle.csi_lists.proofs.Options.{some_is_not_none}
-use Rattle.csi_orchestrator.specs.declared.request.Arguments.{Arguments}
-use Rattle.csi_orchestrator.specs.declared.request.Usage.{Usage}
 use Rattle.csi_orchestrator.specs.declared.row.Goal.{Goal as KeptGoal}
 use Rattle.csi_orchestrator.specs.declared.row.Goal.TheVariants as kept
-use Rattle.csi_orchestrator.specs.declared.thing.Thing.{Thing}
 use Rattle.csi_orchestrator.specs.declared.thing.Thing.TheVariants.{Exists, Attached, Staged, Published}
-use Rattle.csi_orchestrator.specs.declared.thing.Known.{Known}
-use Rattle.csi_orchestrator.specs.declared.thing.Known.TheVariants.{Yes, No, Maybe}
-use Rattle.csi_orchestrator.specs.Model.Thing.{Issued, touches, is_yes, is_no, thing_of}
-use Rattle.csi_orchestrator.specs.Model.History.{Goal, Create, Use, Stop, Delete, Accepted, Closed, Noted, History, with_items}
-use Rattle.csi_orchestrator.specs.Model.Readings.{known, id_of, goal_of, open_call, issued_of, distinct}
-use Rattle.csi_orchestrator.specs.Model.Due.{call_for, targets_in_use, published_target, due_for}
-use Rattle.csi_orchestrator.specs.Model.Shown.{NodeEntryShown, RowShown, row_of, mark_in, mark_of, publication_known, goal_in, goal_shown}
-use Rattle.csi_orchestrator.specs.Model.WellFormed.{IsWellFormed}
-use Rattle.csi_orchestrator.specs.Public.Steady.{IsStandingIf, IsSteadyRowIf, HasMarks, IsAtWork, IsAtRest, AreMarked}
-use Rattle.csi_orchestrator.proofs.HasOnes.{one-found}
 use Rattle.csi_orchestrator.proofs.KeptMarks.{known-there}
 use Rattle.csi_orchestrator.proofs.RepliesFollow.{accepted-follows}
-use Rattle.csi_orchestrator.proofs.ViewsFollow.{closed-follows, noted-follows}
-use Rattle.csi_lists.proofs.Members.{each_of, among-find}
-use Rattle.csi_world.specs.Public.Settling.{IsStopped}
 use Rattle.csi_world.proofs.DueRanks.{use_kind, stop_kind, stop-is}
 use Rattle.csi_world.proofs.Lifetimes.{calls_for}
-use Rattle.csi_world.proofs.NamesRowed.{view_of, agrees-itself, known-aside}
+use Rattle.csi_orchestrator.proofs.RowViews.{told_by as view_of}
+use Rattle.csi_world.proofs.NamesRowed.{agrees-itself, known-aside}
 use Rattle.csi_world.proofs.RowsShown.{HasRows}
 
 -- ---- what is so where no call is due
@@ -75,12 +63,7 @@ module _ (history : History) (name : List ℕ) where
     where
       by : (a s p : Known) → known history (Published name usage.node usage.target) ≡ p → option_and_then (call_for name (Some (Use usage)) (Some has.0)) (use_kind a s p) ≡ None → known history (Published name usage.node usage.target) ≡ Yes
       by Yes Yes Yes is e = is
-      by Yes Yes No is e = absurd (some_is_not_none _ e)
-      by Yes Yes Maybe is e = absurd (some_is_not_none _ e)
-      by Yes No p is e = absurd (some_is_not_none _ e)
-      by Yes Maybe p is e = absurd (some_is_not_none _ e)
-      by No s p is e = absurd (some_is_not_none _ e)
-      by Maybe s p is e = absurd (some_is_not_none _ e)
+      by a s p is e = absurd (some_is_not_none _ e)
 
   stop-met : (node target : List ℕ) → HasId history name → due_for history name (Some (Stop node target)) ≡ None → IsMet history name (Stop node target)
   stop-met node target has e =
@@ -95,12 +78,7 @@ module _ (history : History) (name : List ℕ) where
           → option_and_then (call_for name (Some (Stop node target)) (Some has.0)) (stop_kind p ts s a) ≡ None → IsStopped history name node target
       by No [] No No kp kt ks ka e = record { unpublished = kp; unstaged = λ none. ks; detached = λ none. ka }
       by No (t ∷ ts) s a kp kt ks ka e = record { unpublished = kp; unstaged = λ none. absurd (filled t ts (sym kt ∙ none)); detached = λ none. absurd (filled t ts (sym kt ∙ none)) }
-      by No [] No Yes kp kt ks ka e = absurd (some_is_not_none _ e)
-      by No [] No Maybe kp kt ks ka e = absurd (some_is_not_none _ e)
-      by No [] Yes a kp kt ks ka e = absurd (some_is_not_none _ e)
-      by No [] Maybe a kp kt ks ka e = absurd (some_is_not_none _ e)
-      by Yes ts s a kp kt ks ka e = absurd (some_is_not_none _ e)
-      by Maybe ts s a kp kt ks ka e = absurd (some_is_not_none _ e)
+      by p ts s a kp kt ks ka e = absurd (some_is_not_none _ e)
 
   delete-met : HasId history name → due_for history name (Some Delete) ≡ None → IsMet history name Delete
   delete-met has e =
@@ -108,16 +86,14 @@ module _ (history : History) (name : List ℕ) where
     where
       by : (k : Known) → known history (Exists name) ≡ k → option_and_then (call_for name (Some Delete) (Some has.0)) (cond (is_no k) None (Some kinds.DeleteVolume)) ≡ None → known history (Exists name) ≡ No
       by No is e = is
-      by Yes is e = absurd (some_is_not_none _ e)
-      by Maybe is e = absurd (some_is_not_none _ e)
+      by k is e = absurd (some_is_not_none _ e)
 
   create-met : (arguments : Arguments) → due_for history name (Some (Create arguments)) ≡ None → IsMet history name (Create arguments)
   create-met arguments e = by (known history (Exists name)) refl e
     where
       by : (k : Known) → known history (Exists name) ≡ k → option_and_then (call_for name (Some (Create arguments)) (id_of history name)) (cond (is_yes k) None (Some kinds.CreateVolume)) ≡ None → known history (Exists name) ≡ Yes
       by Yes is e = is
-      by No is e = absurd (some_is_not_none _ e)
-      by Maybe is e = absurd (some_is_not_none _ e)
+      by k is e = absurd (some_is_not_none _ e)
 
   pub met-where-none : (goal : Goal) → HasIdIf history name goal → due_for history name (Some goal) ≡ None → IsMet history name goal
   met-where-none (Create arguments) has e = create-met arguments e
@@ -177,9 +153,7 @@ goal-id history rows name goal wanted other = by (row_of rows.parts.rows name) r
     standing : (row : RowShown) → row_of rows.parts.rows name ≡ Some row → (own : KeptGoal) (id : Option ℕ) → row.id ≡ id → goal_shown row.arguments own ≡ goal → IsStandingIf (Unit {0}) (Some own) id row.exists → HasId history name
     standing row e own (Some id) i g stands = (id, sym ((rows.agrees).same_ids name) ∙ ap (option_and_then (λ (r : RowShown). r.id)) e ∙ i)
     standing row e kept.Create None i g stands = absurd (other row.arguments (sym g))
-    standing row e (kept.Use usage) None i g stands = absurd stands
-    standing row e (kept.Stop node target) None i g stands = absurd stands
-    standing row e kept.Delete None i g stands = absurd stands
+    standing row e own None i g stands = absurd stands
 
     at : (row : RowShown) → row_of rows.parts.rows name ≡ Some row → (own : Option KeptGoal) → row.goal ≡ own → option_map (goal_shown row.arguments) own ≡ Some goal → HasId history name
     at row e None f g = absurd (none-some goal g)
@@ -199,13 +173,9 @@ use-is one usage e = cc
 
 -- where a goal is at work, it isn't published
 at-work : (a s : Known) → IsAtWork a s Yes → ⊥
-at-work No s h = h
 at-work Maybe No h = h
-at-work Maybe Maybe h = h
-at-work Maybe Yes h = h
 at-work Yes No h = h
-at-work Yes Maybe h = h
-at-work Yes Yes h = h
+at-work a s h = h
 
 -- a use that is wanted isn't known to be so
 pub use-unmet : (history : History) → HasRows history → (name : List ℕ) (usage : Usage) → goal_of history name ≡ Some (Use usage) → known history (Published name usage.node usage.target) ≡ Yes → ⊥

@@ -1,25 +1,15 @@
 -- Why a call that keeps the guards leaves what stands: it is for its own volume, it is of no attachment below which
 -- something stands, and it stages only what is attached so.
-use Rattle.std.proofs.Common.{◌≡◌, ℕ, List, [], ◌∷◌, Bool, true, false, cond, Option, Some, None, find, filter, filter_map, ◌==◌, ◌&&◌, refl, sym, ◌∙◌, ap, subst, inl, inr}
-use Rattle.std.proofs.lemmas.Bool.{and_parts, and_from, eqb-true, false≢true, false_from_ne_true}
-use Rattle.csi_types.specs.declared.capability.Capability.{Capability}
-use Rattle.csi_types.specs.declared.call.Call.{Call}
+use Rattle.csi_world.proofs.Words.{◌≡◌, ℕ, List, [], ◌∷◌, Bool, true, false, cond, Option, Some, None, find, filter}
+use Rattle.csi_world.proofs.Words.{filter_map, ◌==◌, ◌&&◌, refl, sym, ◌∙◌, ap, subst, inl, inr, Capability, Call, Party}
+use Rattle.csi_world.proofs.Words.{Controller, Node, PluginView, Frame, PluginThing, Attached, AttachedAs, asked}
+use Rattle.csi_world.proofs.Words.{same_text, Thing, Yes, No, Issued, touches, is_thing, thing_at, is_doing, Held}
+use Rattle.csi_world.proofs.Words.{History, newest, issued_in, known, held_by_call, held, IsGuarded}
+use Rattle.csi_world.proofs.Lemmas.{and_parts, and_from, eqb-true, false≢true, false_from_ne_true, none-some, same_Some}
+use Rattle.csi_world.proofs.Lemmas.{same_text-tells}
 use Rattle.csi_types.specs.declared.call.Call.TheVariants as calls
-use Rattle.csi_types.specs.declared.call.Party.{Party}
-use Rattle.csi_types.specs.declared.call.Party.TheVariants.{Controller, Node}
-use Rattle.csi_fence.specs.Public.Delivery.{PluginView}
-use Rattle.csi_types.specs.Model.Frame.{Frame}
-use Rattle.csi_types.specs.Public.PluginThing.{PluginThing, Attached, AttachedAs, asked}
-use Rattle.std.proofs.lemmas.Option.{none-some, same_Some}
-use Rattle.csi_types.specs.Model.Same.{same_text}
-use Rattle.csi_types.proofs.Equality.{same_text-tells}
-use Rattle.csi_orchestrator.specs.declared.thing.Thing.{Thing}
 use Rattle.csi_orchestrator.specs.declared.thing.Thing.TheVariants as things
-use Rattle.csi_orchestrator.specs.declared.thing.Known.TheVariants.{Yes, No}
-use Rattle.csi_orchestrator.specs.Model.Thing.{Issued, touches, is_thing, thing_at, is_doing}
-use Rattle.csi_orchestrator.specs.Model.History.{Held, History}
-use Rattle.csi_orchestrator.specs.Model.Readings.{newest, issued_in, known, held_by_call, held}
-use Rattle.csi_orchestrator.specs.Public.Guards.{IsGuarded, HasId}
+use Rattle.csi_orchestrator.specs.Public.Guards.{HasId}
 use Rattle.csi_world.proofs.GivenIds.{GivenId, HasNow, HasOld, HasName}
 use Rattle.csi_world.proofs.CallThings.{IsOwnNow, IsThingBy, Existence, Attachment, Staging, Publication, plugin_thing_at, is_plugin_thing, is_of}
 use Rattle.csi_world.proofs.Lifetimes.{latest, calls-attached}

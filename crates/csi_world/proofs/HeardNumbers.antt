@@ -1,34 +1,19 @@
 -- No plugin has heard of a session or of a number above the orchestrator's last one.
-use Rattle.std.proofs.Common.{◌≡◌, ◌⊎◌, ℕ, ◌≤◌, ◌<◌, List, [], ◌∷◌, map, not, Bool, true, false, cond, Option, Some, None, refl, sym, ◌∙◌, ap, subst, inl, inr, ⊎_elim, ◌==◌, arith}
-use Rattle.std.proofs.lemmas.Bool.Decides.{nat_tests}
-use Rattle.csi_types.specs.declared.number.Number.{Number}
-use Rattle.csi_types.specs.declared.call.Call.{Call}
-use Rattle.csi_types.specs.declared.call.Party.{Party}
-use Rattle.csi_types.specs.declared.call.Party.TheVariants.{Controller, Node}
-use Rattle.csi_types.specs.declared.frame.Body.{Body}
+use Rattle.csi_world.proofs.Words.{◌≡◌, ◌⊎◌, ℕ, ◌≤◌, ◌<◌, List, [], ◌∷◌, map, not, Bool, true, false, cond, Option}
+use Rattle.csi_world.proofs.Words.{Some, None, refl, sym, ◌∙◌, ap, subst, inl, inr, ⊎_elim, ◌==◌, arith, Number, Call}
+use Rattle.csi_world.proofs.Words.{Party, Controller, Node, Body, kind_of, Config, Frame, IsBefore, same_text, IsAmong}
+use Rattle.csi_world.proofs.Words.{Kept, Fenced, fenced_parts, Volume, ControllerState, is_row_for, ended_volume}
+use Rattle.csi_world.proofs.Words.{NodeState, AnsweredVolume, volume_of, last_number, NodeAt, World, empty_world}
+use Rattle.csi_world.proofs.Words.{node_id, new_node, node_state, with_state, with_node, with_frame, answered_by}
+use Rattle.csi_world.proofs.Words.{answered_by_node, answered_by_plugin, Choice, Sends, Starts, Answers, Joins, Loses}
+use Rattle.csi_world.proofs.Words.{MayChoose, MayChooseAll, chosen, chosen_all}
+use Rattle.csi_world.proofs.Lemmas.{nat_tests, among-either, among-filter, among-map, Carried, no_room, has_room}
+use Rattle.csi_world.proofs.Lemmas.{was_carried, kept_of, keep-each, keep-session, changed-session, changed-rows}
 use Rattle.csi_types.specs.declared.frame.Body.TheVariants as bodies
-use Rattle.csi_types.specs.Model.Call.{kind_of}
-use Rattle.csi_types.specs.Model.Config.{Config}
-use Rattle.csi_types.specs.Model.Frame.{Frame}
-use Rattle.csi_types.specs.Model.Number.{IsBefore}
-use Rattle.csi_types.specs.Model.Same.{same_text}
-use Rattle.csi_lists.specs.Model.Members.{IsAmong}
-use Rattle.csi_lists.proofs.Members.{among-either, among-filter, among-map}
-use Rattle.csi_fence.specs.Model.Fence.{Kept}
-use Rattle.csi_fence.specs.Model.Fenced.{Fenced, fenced_parts}
-use Rattle.csi_controller.specs.Model.State.{Volume, ControllerState, is_row_for}
 use Rattle.csi_controller.specs.Model.Table as controller_table
-use Rattle.csi_controller.specs.Model.Table.{ended_volume}
 use Rattle.csi_controller.specs.Model.Fenced as controllers
-use Rattle.csi_node.specs.Model.State.{NodeState, AnsweredVolume, volume_of}
 use Rattle.csi_node.specs.Model.Table as node_table
 use Rattle.csi_node.specs.Model.Fenced as nodes
-use Rattle.csi_node.proofs.CarriedOut.{Carried, no_room, has_room, was_carried, kept_of}
-use Rattle.csi_node.proofs.LastCalls.{keep-each, keep-session, changed-session, changed-rows}
-use Rattle.csi_orchestrator.specs.Model.Readings.{last_number}
-use Rattle.csi_world.specs.Model.World.{NodeAt, World, empty_world, node_id, new_node, node_state, with_state, with_node, with_frame}
-use Rattle.csi_world.specs.Model.Step.{answered_by, answered_by_node, answered_by_plugin}
-use Rattle.csi_world.specs.Public.Step.{Choice, Sends, Closes, Takes, Notes, Starts, Forgets, Answers, Joins, Loses, Configures, MayChoose, MayChooseAll, chosen, chosen_all}
 use Rattle.csi_world.proofs.JudgedCalls.{call-so, changed-sessions}
 use Rattle.csi_world.proofs.PluginsReached.{found-at, knows-nothing}
 use Rattle.csi_world.proofs.Deliveries.{PluginLaws}
@@ -75,14 +60,12 @@ ended-kept id volume = by (volume.id == id)
 -- what is kept after a change
 changed-kept : (last : Number) (state : ControllerState) (kept : Kept) (change : controller_table.Change) → IsUpTo last kept.number → ControllerHeard last state
     → (volume : Volume) → IsAmong volume (controller_table.changed state kept change).volumes → IsUpTo last volume.kept.number
-changed-kept last state kept controller_table.Stays new heard volume among = heard.kept volume among
 changed-kept last state kept (controller_table.Makes name capacity capabilities) new heard volume among =
     ⊎_elim (λ there. heard.kept volume there) (λ e. subst (λ (v : Volume). IsUpTo last v.kept.number) (sym e) new) (among-either state.volumes _ volume among)
 changed-kept last state kept (controller_table.Ends id) new heard volume among =
     let from = among-map (ended_volume id) state.volumes volume among in
     subst (λ (k : Kept). IsUpTo last k.number) (sym (ap (λ (v : Volume). v.kept) from.2 ∙ ended-kept id from.0)) (heard.kept from.0 from.1)
-changed-kept last state kept (controller_table.Attaches holding) new heard volume among = heard.kept volume among
-changed-kept last state kept (controller_table.Detaches id node) new heard volume among = heard.kept volume among
+changed-kept last state kept change new heard volume among = heard.kept volume among
 
 -- what a row keeps once a call is kept
 kept-then : (last : Number) (call : Call) (kept : Kept) (volume : Volume) → IsUpTo last kept.number → IsUpTo last volume.kept.number → IsUpTo last (controllers.kept_in call kept volume).kept.number
@@ -227,11 +210,7 @@ started-up last session less = inr (grind (arith, nat_tests))
 -- it stays so by each choice that may be made
 chosen-heard : (world : World) (choice : Choice) → IsRight world → MayChoose world choice → HasHeard world → HasHeard (chosen world choice)
 chosen-heard world (Sends issued) right may heard = heard-later (last_number world.history) issued.number world.controller world.nodes (inr may.numbered.later) heard
-chosen-heard world (Closes number) right may heard = heard
-chosen-heard world (Takes issued reply) right may heard = heard
-chosen-heard world (Notes name goal) right may heard = heard
 chosen-heard world (Starts session ns) right may heard = heard-later (last_number world.history) (record { session = session; call = 0 }) world.controller world.nodes (started-up (last_number world.history) session may) heard
-chosen-heard world (Forgets name) right may heard = heard
 chosen-heard world (Answers frame) right may heard = answered-heard world frame (sent-up world right frame may) heard
 chosen-heard world (Joins node) right may heard =
     record {
@@ -244,7 +223,7 @@ chosen-heard world (Joins node) right may heard =
 chosen-heard world (Loses node session ns) right may heard =
     let later = heard-later (last_number world.history) (record { session = session; call = 0 }) world.controller world.nodes (started-up (last_number world.history) session may) heard in
     record { controller = later.controller; nodes = λ at among. later.nodes at (among-filter (λ (n : NodeAt). not (same_text n.id node)) world.nodes at among) }
-chosen-heard world (Configures config) right may heard = heard
+chosen-heard world other right may heard = heard
 
 -- and by many
 pub all-heard : PluginLaws → (world : World) (choices : List Choice) → IsRight world → MayChooseAll world choices → HasHeard world → HasHeard (chosen_all world choices)

@@ -1,30 +1,15 @@
 -- What the orchestrator's history tells of the replies that were sent.
-use Rattle.std.proofs.Common.{◌≡◌, ◌⊎◌, ℕ, List, [], ◌∷◌, ◌++◌, Bool, true, false, cond, not, zero, suc, slice_get, Option, Some, None, find, filter_map, ◌&&◌, refl, sym, ◌∙◌, ap, subst, inl, inr}
-use Rattle.std.proofs.lemmas.Bool.{and_parts, false≢true}
-use Rattle.std.proofs.lemmas.Option.{none-some, same_Some}
-use Rattle.csi_types.specs.declared.number.Number.{Number}
-use Rattle.csi_types.specs.declared.call.Call.{Call}
+use Rattle.csi_world.proofs.Words.{◌≡◌, ◌⊎◌, ℕ, List, [], ◌∷◌, ◌++◌, Bool, true, false, cond, not, zero, suc, slice_get}
+use Rattle.csi_world.proofs.Words.{Option, Some, None, find, filter_map, ◌&&◌, refl, sym, ◌∙◌, ap, subst, inl, inr}
+use Rattle.csi_world.proofs.Words.{Number, Call, Capability, Reply, Status, kind_of, Frame, IsAmong, EachTwo}
+use Rattle.csi_world.proofs.Words.{is_ok_status, reply_frame, same_text, same_number, Thing, Yes, No, Maybe, Issued}
+use Rattle.csi_world.proofs.Words.{touches, is_doing, is_yes, is_no, Item, Accepted, History, newest, lifetime}
+use Rattle.csi_world.proofs.Words.{issued_in, issued_since, is_success_of, has_success, known_by, known, id_in, id_by}
+use Rattle.csi_world.proofs.Words.{id_of, Exists}
+use Rattle.csi_world.proofs.Lemmas.{and_parts, false≢true, none-some, same_Some, among-append, among-kept}
+use Rattle.csi_world.proofs.Lemmas.{among-filter_map, find-passes, any-then, same_number-tells, same_text-tells}
 use Rattle.csi_types.specs.declared.call.Call.TheVariants as calls
-use Rattle.csi_types.specs.declared.capability.Capability.{Capability}
-use Rattle.csi_types.specs.declared.reply.Reply.{Reply}
-use Rattle.csi_types.specs.declared.status.Status.{Status}
 use Rattle.csi_types.specs.declared.status.Status.TheVariants.{Ok}
-use Rattle.csi_types.specs.Model.Call.{kind_of}
-use Rattle.csi_types.specs.Model.Frame.{Frame}
-use Rattle.csi_lists.specs.Model.Members.{IsAmong, EachTwo}
-use Rattle.csi_lists.proofs.Members.{among-append, among-kept, among-filter_map}
-use Rattle.csi_lists.proofs.Searches.{find-passes}
-use Rattle.csi_lists.proofs.Tests.{any-then}
-use Rattle.csi_types.specs.Model.Reply.{is_ok_status}
-use Rattle.csi_types.specs.Model.Replies.{reply_frame}
-use Rattle.csi_types.specs.Model.Same.{same_text, same_number}
-use Rattle.csi_types.proofs.Equality.{same_number-tells, same_text-tells}
-use Rattle.csi_orchestrator.specs.declared.thing.Thing.{Thing}
-use Rattle.csi_orchestrator.specs.declared.thing.Known.TheVariants.{Yes, No, Maybe}
-use Rattle.csi_orchestrator.specs.Model.Thing.{Issued, touches, is_doing, is_yes, is_no}
-use Rattle.csi_orchestrator.specs.Model.History.{Item, Accepted, History}
-use Rattle.csi_orchestrator.specs.Model.Readings.{newest, lifetime, issued_in, issued_since, is_success_of, has_success, known_by, known, id_in, id_by, id_of}
-use Rattle.csi_types.specs.Public.PluginThing.{Exists}
 use Rattle.csi_world.proofs.GivenIds.{GivenId, HasNow}
 use Rattle.csi_world.proofs.CallThings.{IsAnsweredOk, ComesAfter, one-number}
 use Rattle.csi_world.proofs.Lifetimes.{calls_since, calls_for, lifetime-is, since-sent}

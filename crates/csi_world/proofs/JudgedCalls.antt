@@ -1,17 +1,9 @@
 -- What one call keeps of a plugin's state, and what a call of an earlier session does: nothing.
-use Rattle.std.proofs.Common.{◌≡◌, ◌<◌, Bool, true, false, cond, refl, ap}
-use Rattle.std.proofs.lemmas.Bool.{lt-ltb}
-use Rattle.csi_types.specs.declared.number.Number.{Number}
-use Rattle.csi_types.specs.declared.call.Call.{Call}
-use Rattle.csi_types.specs.declared.call.Party.{Party}
+use Rattle.csi_world.proofs.Words.{◌≡◌, ◌<◌, Bool, true, false, cond, refl, ap, Number, Call, Party, kind_of}
+use Rattle.csi_world.proofs.Words.{stale_reply, same_party, Kept, begins, Fenced, Machine, in_session, answered_only}
+use Rattle.csi_world.proofs.Words.{answered_in, fenced_call, unanswered, fenced_parts, ControllerState}
+use Rattle.csi_world.proofs.Lemmas.{lt-ltb, Judgement, was_over, was_fresh, was_repeated, was_stale, was_judged}
 use Rattle.csi_types.specs.declared.frame.Body.TheVariants as bodies
-use Rattle.csi_types.specs.Model.Call.{kind_of}
-use Rattle.csi_types.specs.Model.Replies.{stale_reply}
-use Rattle.csi_types.specs.Model.Same.{same_party}
-use Rattle.csi_fence.specs.Model.Fence.{Kept, begins}
-use Rattle.csi_fence.specs.Model.Fenced.{Fenced, Machine, in_session, answered_only, answered_in, fenced_call, unanswered, fenced_parts}
-use Rattle.csi_fence.proofs.Judged.{Judgement, was_over, was_fresh, was_repeated, was_stale, was_judged}
-use Rattle.csi_controller.specs.Model.State.{ControllerState}
 use Rattle.csi_controller.specs.Model.Table as controller_table
 
 -- ---- what one call keeps
@@ -52,7 +44,4 @@ low-call machine state number party call low =
 -- a change leaves the session
 pub changed-sessions : (state : ControllerState) (kept : Kept) (change : controller_table.Change) → (controller_table.changed state kept change).session ≡ state.session
 changed-sessions state kept controller_table.Stays = refl
-changed-sessions state kept (controller_table.Makes name capacity capabilities) = refl
-changed-sessions state kept (controller_table.Ends id) = refl
-changed-sessions state kept (controller_table.Attaches holding) = refl
-changed-sessions state kept (controller_table.Detaches id node) = refl
+changed-sessions state kept change = refl

@@ -1,32 +1,16 @@
 -- What each row keeps is of a call that was sent, of the row's volume, and its reply is none of a late call.
-use Rattle.std.proofs.Common.{◌≡◌, ◌⊎◌, ℕ, List, ◌∷◌, map, Bool, true, false, cond, Option, Some, None, refl, sym, ◌∙◌, ap, subst, inl, inr, ⊎_elim, ◌==◌}
-use Rattle.std.proofs.lemmas.Bool.{eqb-true}
-use Rattle.csi_types.specs.declared.number.Number.{Number}
-use Rattle.csi_types.specs.declared.call.Call.{Call}
+use Rattle.csi_world.proofs.Words.{◌≡◌, ◌⊎◌, ℕ, List, ◌∷◌, map, Bool, true, false, cond, Option, Some, None, refl, sym}
+use Rattle.csi_world.proofs.Words.{◌∙◌, ap, subst, inl, inr, ⊎_elim, ◌==◌, Number, Call, Node, kind_of, capacity_wanted}
+use Rattle.csi_world.proofs.Words.{Config, Frame, ok_reply_with, reply_frame, same_text, IsAmong, Kept, Fenced, Volume}
+use Rattle.csi_world.proofs.Words.{ControllerState, is_row_for, ended_volume, NodeState, AnsweredVolume, volume_of}
+use Rattle.csi_world.proofs.Words.{row_with_id, Issued, is_aborted}
+use Rattle.csi_world.proofs.Lemmas.{eqb-true, same_text-tells, among-either, among-map, changed-rows}
 use Rattle.csi_types.specs.declared.call.Call.TheVariants as calls
-use Rattle.csi_types.specs.declared.call.Party.TheVariants.{Node}
-use Rattle.csi_types.specs.Model.Call.{kind_of}
-use Rattle.csi_types.specs.Model.Capacity.{capacity_wanted}
-use Rattle.csi_types.specs.Model.Config.{Config}
-use Rattle.csi_types.specs.Model.Frame.{Frame}
-use Rattle.csi_types.specs.Model.Replies.{ok_reply_with, reply_frame}
-use Rattle.csi_types.specs.Model.Same.{same_text}
-use Rattle.csi_types.proofs.Equality.{same_text-tells}
-use Rattle.csi_lists.specs.Model.Members.{IsAmong}
-use Rattle.csi_lists.proofs.Members.{among-either, among-map}
-use Rattle.csi_fence.specs.Model.Fence.{Kept}
-use Rattle.csi_fence.specs.Model.Fenced.{Fenced}
-use Rattle.csi_controller.specs.Model.State.{Volume, ControllerState, is_row_for}
 use Rattle.csi_controller.specs.Model.Table as controller_table
-use Rattle.csi_controller.specs.Model.Table.{ended_volume}
 use Rattle.csi_controller.specs.Model.Fenced as controllers
 use Rattle.csi_controller.proofs.TableOutcomes as controller_outcomes
-use Rattle.csi_node.specs.Model.State.{NodeState, AnsweredVolume, volume_of, row_with_id}
 use Rattle.csi_node.specs.Model.Table as node_table
 use Rattle.csi_node.specs.Model.Fenced as nodes
-use Rattle.csi_node.proofs.LastCalls.{changed-rows}
-use Rattle.csi_orchestrator.specs.Model.Thing.{Issued}
-use Rattle.csi_orchestrator.specs.Public.Stale.{is_aborted}
 use Rattle.csi_world.proofs.NamedCalls.{own}
 use Rattle.csi_world.proofs.PlainReplies.{IsPlain, ControllerPlain, controller-plain, node-plain}
 

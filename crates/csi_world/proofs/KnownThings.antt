@@ -1,34 +1,19 @@
 -- What an orchestrator's history tells of the things: what is known to be so, or not to be so, by the names, and what the plugins have by
 -- the ids that the names have.
-use Rattle.std.proofs.Common.{◌≡◌, ◌⊎◌, ℕ, List, ◌++◌, Bool, true, false, Option, Some, None, find, ◌==◌, ◌&&◌, IsTrue, refl, sym, ◌∙◌, ap, subst, inl, inr, ⊎_elim}
-use Rattle.std.proofs.lemmas.Bool.{and_parts, eqb-true, false≢true}
-use Rattle.std.proofs.lemmas.Option.{none-some, same_Some}
-use Rattle.csi_types.specs.declared.number.Number.{Number}
-use Rattle.csi_types.specs.declared.capability.Capability.{Capability}
-use Rattle.csi_types.specs.declared.call.Call.{Call}
+use Rattle.csi_world.proofs.Words.{◌≡◌, ◌⊎◌, ℕ, List, ◌++◌, Bool, true, false, Option, Some, None, find, ◌==◌, ◌&&◌}
+use Rattle.csi_world.proofs.Words.{IsTrue, refl, sym, ◌∙◌, ap, subst, inl, inr, ⊎_elim, Number, Capability, Call, Party}
+use Rattle.csi_world.proofs.Words.{Controller, Node, Reply, PluginView, IsClosed, IsBefore, Frame, PluginThing, Exists}
+use Rattle.csi_world.proofs.Words.{Attached, Staged, Published, StagedAs, same_plugin_thing, asked, IsAmong, EachTwo}
+use Rattle.csi_world.proofs.Words.{same_text, Thing, Yes, No, Issued, name_in, touches, is_thing, same_thing, thing_at}
+use Rattle.csi_world.proofs.Words.{is_doing, Item, History, issued_in, has_success, known}
+use Rattle.csi_world.proofs.Lemmas.{and_parts, eqb-true, false≢true, none-some, same_Some, among-find, find-passes}
+use Rattle.csi_world.proofs.Lemmas.{find-same_among, same_plugin_thing-tells, find-behind}
 use Rattle.csi_types.specs.declared.call.Call.TheVariants as calls
-use Rattle.csi_types.specs.declared.call.Party.{Party}
-use Rattle.csi_types.specs.declared.call.Party.TheVariants.{Controller, Node}
-use Rattle.csi_types.specs.declared.reply.Reply.{Reply}
-use Rattle.csi_fence.specs.Public.Delivery.{PluginView, IsClosed}
-use Rattle.csi_types.specs.Model.Number.{IsBefore}
-use Rattle.csi_types.specs.Model.Frame.{Frame}
-use Rattle.csi_types.specs.Public.PluginThing.{PluginThing, Exists, Attached, Staged, Published, StagedAs, same_plugin_thing, asked}
-use Rattle.csi_lists.specs.Model.Members.{IsAmong, EachTwo}
-use Rattle.csi_lists.proofs.Members.{among-find}
-use Rattle.csi_lists.proofs.Searches.{find-passes, find-same_among}
-use Rattle.csi_types.specs.Model.Same.{same_text}
-use Rattle.csi_types.proofs.Equality.{same_plugin_thing-tells}
-use Rattle.csi_orchestrator.specs.declared.thing.Thing.{Thing}
 use Rattle.csi_orchestrator.specs.declared.thing.Thing.TheVariants as things
-use Rattle.csi_orchestrator.specs.declared.thing.Known.TheVariants.{Yes, No}
-use Rattle.csi_orchestrator.specs.Model.Thing.{Issued, name_in, touches, is_thing, same_thing, thing_at, is_doing}
-use Rattle.csi_orchestrator.specs.Model.History.{Item, History}
-use Rattle.csi_orchestrator.specs.Model.Readings.{issued_in, has_success, known}
 use Rattle.csi_world.proofs.GivenIds.{GivenId, HasNow, HasOld, HasName, AreGiven}
 use Rattle.csi_world.proofs.CallThings.{IsAnsweredOk, ComesAfter, IsOwn, IsOwnOld, IsOne, IsThingBy, Existence, Attachment, Staging, Publication, of_thing, is_plugin_thing, is_of}
 use Rattle.csi_world.proofs.Lifetimes.{latest, calls_since, calls_before, calls_for, is_past, over_in, IsTimed, since-or-before, before-sent, for-sent, calls-split, calls-exists, calls-same, since-rising, over-before}
-use Rattle.csi_world.proofs.Lifetimes.{find-first_part, find-in_first, find-narrower, none-narrower, same-narrower, none-after_old, same-wider}
+use Rattle.csi_world.proofs.Lifetimes.{find-in_first, find-narrower, none-narrower, same-narrower, none-after_old, same-wider}
 use Rattle.csi_world.proofs.NamedCalls.{Named, own, of-then-touches, touches-then-of, same-tells}
 use Rattle.csi_world.proofs.HeardReplies.{IsHeard, IsLatest, success-ok, known-yes, known-no, latest-known}
 use Rattle.csi_world.proofs.RepliesTold.{Truth}
@@ -80,9 +65,7 @@ one-named given _ _ (Publication name node target id has) = Publication name nod
 -- whether a volume is there
 abbrev pub is_exists : Thing → Bool
 is_exists (things.Exists name) = true
-is_exists (things.Attached name node) = false
-is_exists (things.Staged name node) = false
-is_exists (things.Published name node target) = false
+is_exists thing = false
 
 -- a thing that isn't that is no other that is
 not-exists : (thing : Thing) → is_exists thing ≡ false → (name : List ℕ) → thing ≡ things.Exists name → ⊥
@@ -289,7 +272,7 @@ module _ (history : History) (frames : List Frame) (view : PluginView) (given : 
 
       by : (o : Option Issued) → latest history.items (Exists name) ≡ o → latest history.items (Exists name) ≡ Some call
       by None e =
-          let earlier = sym (before-found name) ∙ sym (find-first_part (is_of (Exists name)) since before e) ∙ whole in
+          let earlier = sym (before-found name) ∙ sym (find-behind (is_of (Exists name)) since before e) ∙ whole in
           absurd (false≢true (sym (so.undone name call earlier) ∙ is.is_so))
       by (Some last) e = e ∙ sym (find-in_first (is_of (Exists name)) since before last e) ∙ whole
 

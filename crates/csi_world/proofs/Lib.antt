@@ -1,3 +1,5 @@
+mod Words
+mod Lemmas
 pub mod MarksTold
 pub mod PartsSafe
 pub mod ListedNodes

@@ -1,25 +1,16 @@
 -- The calls of a thing, by its id, since what was so of it ended without a call: a node was lost, or a name forgotten. All calls before
 -- that are of an earlier session than the one that began then.
-use Rattle.std.proofs.Common.{◌≡◌, ◌⊎◌, ℕ, ◌<◌, ◌≤◌, List, [], ◌∷◌, ◌++◌, Bool, true, false, cond, if◌then◌else◌, Option, Some, None, find, IsTrue, refl, sym, ◌∙◌, ap, subst, inl, inr, ⊎_elim, arith}
-use Rattle.std.proofs.lemmas.Bool.{false≢true, false_from_ne_true, ltb-true}
-use Rattle.std.proofs.lemmas.Bool.Decides.{nat_tests}
-use Rattle.std.proofs.lemmas.List.Elements.{filter_map-append}
-use Rattle.std.proofs.lemmas.Option.{none-some, same_Some}
-use Rattle.std.specs.List.{AllByRecursion}
-use Rattle.csi_types.specs.declared.number.Number.{Number}
-use Rattle.csi_types.specs.Model.Number.{is_before, IsBefore}
-use Rattle.csi_types.specs.Model.Same.{same_text}
-use Rattle.csi_types.specs.Public.PluginThing.{PluginThing, Exists, Attached, Staged, Published}
-use Rattle.csi_lists.specs.Model.Members.{IsAmong, EachTwo}
-use Rattle.csi_lists.proofs.Members.{each_of, among-append, among-right, among-joined, among-find, none_passes, some-found}
-use Rattle.csi_lists.proofs.Searches.{find-none, find-passes}
-use Rattle.csi_fence.specs.Model.Fence.{is_over}
-use Rattle.csi_orchestrator.specs.Model.Thing.{Issued}
-use Rattle.csi_orchestrator.specs.Model.History.{Item, Started, Lost, Forgotten, Sent, Accepted, Closed, Noted, History}
-use Rattle.csi_orchestrator.specs.declared.thing.Thing.{Thing}
+use Rattle.csi_world.proofs.Words.{◌≡◌, ◌⊎◌, ℕ, ◌<◌, ◌≤◌, List, [], ◌∷◌, ◌++◌, Bool, true, false, cond, if◌then◌else◌}
+use Rattle.csi_world.proofs.Words.{Option, Some, None, find, IsTrue, refl, sym, ◌∙◌, ap, subst, inl, inr, ⊎_elim, arith}
+use Rattle.csi_world.proofs.Words.{AllByRecursion, Number, is_before, IsBefore, same_text, PluginThing, Exists}
+use Rattle.csi_world.proofs.Words.{Attached, Staged, Published, IsAmong, EachTwo, is_over, Issued, Item, Lost}
+use Rattle.csi_world.proofs.Words.{Forgotten, Sent, History, Thing, since, is_forgetting, lifetime, issued_by}
+use Rattle.csi_world.proofs.Words.{issued_in, last_in}
+use Rattle.csi_world.proofs.Lemmas.{false≢true, false_from_ne_true, ltb-true, nat_tests, filter_map-append, none-some}
+use Rattle.csi_world.proofs.Lemmas.{same_Some, each_of, among-append, among-right, among-joined, among-find}
+use Rattle.csi_world.proofs.Lemmas.{none_passes, some-found, find-none, find-passes}
 use Rattle.csi_orchestrator.specs.declared.thing.Thing.TheVariants as things
 use Rattle.csi_orchestrator.specs.Model.Readings as orchestrator
-use Rattle.csi_orchestrator.specs.Model.Readings.{since, is_forgetting, lifetime, issued_by, issued_in, last_in}
 use Rattle.csi_world.proofs.CallThings.{IsThingBy, Existence, Attachment, Staging, Publication, is_of, ComesAfter}
 
 -- what is staged or published at the node
@@ -32,9 +23,7 @@ is_on node (Published id other target) = same_text other node
 -- whether the volume of the name is there
 abbrev pub is_named : List ℕ → PluginThing → Bool
 is_named name (Exists other) = same_text name other
-is_named name (Attached id node) = false
-is_named name (Staged id node) = false
-is_named name (Published id node target) = false
+is_named name thing = false
 
 -- the item ends what was so of the thing
 abbrev pub ends : PluginThing → Item → Bool
@@ -79,13 +68,9 @@ pub lifetime-is : (name : List ℕ) (items : List Item) → lifetime name items 
 lifetime-is name items = since-alike (is_forgetting name) (ends (Exists name)) alike items
   where
     alike : (item : Item) → is_forgetting name item ≡ ends (Exists name) item
-    alike (Started session nodes) = refl
     alike (Lost node) = refl
     alike (Forgotten other) = refl
-    alike (Sent issued) = refl
-    alike (Accepted number status id) = refl
-    alike (Closed number) = refl
-    alike (Noted other goal) = refl
+    alike item = refl
 
 -- ---- what an orchestrator knows of a thing is told by the calls since a loss ended it
 
@@ -103,61 +88,44 @@ pub calls-exists : (name : List ℕ) (items : List Item) → calls_for (things.E
 calls-exists name items = ap issued_in (since-all (orchestrator.ends (things.Exists name)) none items)
   where
     none : (item : Item) → orchestrator.ends (things.Exists name) item ≡ false
-    none (Started session nodes) = refl
     none (Lost node) = refl
-    none (Forgotten other) = refl
-    none (Sent issued) = refl
-    none (Accepted number status id) = refl
-    none (Closed number) = refl
-    none (Noted other goal) = refl
+    none item = refl
 
 -- nor is where its volume is attached
 pub calls-attached : (name node : List ℕ) (items : List Item) → calls_for (things.Attached name node) items ≡ issued_in items
 calls-attached name node items = ap issued_in (since-all (orchestrator.ends (things.Attached name node)) none items)
   where
     none : (item : Item) → orchestrator.ends (things.Attached name node) item ≡ false
-    none (Started session nodes) = refl
     none (Lost lost) = refl
-    none (Forgotten other) = refl
-    none (Sent issued) = refl
-    none (Accepted number status id) = refl
-    none (Closed number) = refl
-    none (Noted other goal) = refl
+    none item = refl
 
 -- what else is so of a volume ends by its name where it does by an id
+ends-alike : {has : List ℕ → ℕ → Type 0} (thing : Thing) (plugin_thing : PluginThing) → IsThingBy has thing plugin_thing → ((name : List ℕ) → thing ≡ things.Exists name → ⊥) → (item : Item)
+    → orchestrator.ends thing item ≡ ends plugin_thing item
+ends-alike _ _ (Existence name) other item = absurd (other name refl)
+ends-alike _ _ (Attachment name node id has) other item = at item
+  where
+    at : (item : Item) → orchestrator.ends (things.Attached name node) item ≡ ends (Attached id node) item
+    at (Lost lost) = refl
+    at (Forgotten gone) = refl
+    at item = refl
+ends-alike _ _ (Staging name node id has) other item = at item
+  where
+    at : (item : Item) → orchestrator.ends (things.Staged name node) item ≡ ends (Staged id node) item
+    at (Lost lost) = refl
+    at (Forgotten gone) = refl
+    at item = refl
+ends-alike _ _ (Publication name node target id has) other item = at item
+  where
+    at : (item : Item) → orchestrator.ends (things.Published name node target) item ≡ ends (Published id node target) item
+    at (Lost lost) = refl
+    at (Forgotten gone) = refl
+    at item = refl
+
+-- so it is of the calls since
 pub calls-same : {has : List ℕ → ℕ → Type 0} (thing : Thing) (plugin_thing : PluginThing) (items : List Item) → IsThingBy has thing plugin_thing → ((name : List ℕ) → thing ≡ things.Exists name → ⊥)
     → calls_for thing items ≡ calls_since plugin_thing items
-calls-same _ _ items (Existence name) other = absurd (other name refl)
-calls-same _ _ items (Attachment name node id has) other = ap issued_in (since-alike (orchestrator.ends (things.Attached name node)) (ends (Attached id node)) alike items)
-  where
-    alike : (item : Item) → orchestrator.ends (things.Attached name node) item ≡ ends (Attached id node) item
-    alike (Started session nodes) = refl
-    alike (Lost lost) = refl
-    alike (Forgotten other) = refl
-    alike (Sent issued) = refl
-    alike (Accepted number status told) = refl
-    alike (Closed number) = refl
-    alike (Noted other goal) = refl
-calls-same _ _ items (Staging name node id has) other = ap issued_in (since-alike (orchestrator.ends (things.Staged name node)) (ends (Staged id node)) alike items)
-  where
-    alike : (item : Item) → orchestrator.ends (things.Staged name node) item ≡ ends (Staged id node) item
-    alike (Started session nodes) = refl
-    alike (Lost lost) = refl
-    alike (Forgotten other) = refl
-    alike (Sent issued) = refl
-    alike (Accepted number status told) = refl
-    alike (Closed number) = refl
-    alike (Noted other goal) = refl
-calls-same _ _ items (Publication name node target id has) other = ap issued_in (since-alike (orchestrator.ends (things.Published name node target)) (ends (Published id node target)) alike items)
-  where
-    alike : (item : Item) → orchestrator.ends (things.Published name node target) item ≡ ends (Published id node target) item
-    alike (Started session nodes) = refl
-    alike (Lost lost) = refl
-    alike (Forgotten other) = refl
-    alike (Sent issued) = refl
-    alike (Accepted number status told) = refl
-    alike (Closed number) = refl
-    alike (Noted other goal) = refl
+calls-same thing plugin_thing items of other = ap issued_in (since-alike (orchestrator.ends thing) (ends plugin_thing) (ends-alike thing plugin_thing of other) items)
 
 -- the items since and those before are all
 split : (is : Item → Bool) (items : List Item) → items ≡ since is items ++ from is items
@@ -302,15 +270,6 @@ timed-ended began items item silent same earlier timed =
     up : (thing : PluginThing) (b : Bool) → cond b (last_in began items).session (over_in began items thing) ≤ (last_in began items).session
     up thing true = omega arith
     up thing false = timed.begun thing
-
--- the first of a list that passes and the first of another that it begins with
-pub find-first_part : {X : Type 0} (p : X → Bool) (xs ys : List X) → find p xs ≡ None → find p (xs ++ ys) ≡ find p ys
-find-first_part p [] ys none = refl
-find-first_part {X = X} p (x ∷ xs) ys none = by (p x) none (λ e. find-first_part p xs ys e)
-  where
-    by : (b : Bool) → cond b (Some x) (find p xs) ≡ None → (find p xs ≡ None → find p (xs ++ ys) ≡ find p ys) → cond b (Some x) (find p (xs ++ ys)) ≡ find p ys
-    by true e rest = absurd (none-some x (sym e))
-    by false e rest = rest e
 
 -- where something passes in the first part, it is the first of all
 pub find-in_first : {X : Type 0} (p : X → Bool) (xs ys : List X) (x : X) → find p xs ≡ Some x → find p (xs ++ ys) ≡ Some x

@@ -1,18 +1,10 @@
 -- Nodes that are like what is listed of them, one by one; and what the readers of the plugins list is like each world that the
 -- plugins show.
-use Rattle.std.proofs.Common.{◌≡◌, List, [], ◌∷◌, map, Bool, true, false, cond, Some, find, refl, sym, ◌∙◌, ap, subst, inl, inr, ◌++◌}
-use Rattle.std.specs.List.{list_any}
-use Rattle.std.proofs.lemmas.Bool.{false≢true}
-use Rattle.csi_lists.specs.Model.Members.{IsAmong}
-use Rattle.csi_lists.proofs.Members.{in-map}
-use Rattle.csi_lists.proofs.Tests.{then-any}
-use Rattle.csi_types.specs.Model.Same.{same_text}
-use Rattle.csi_types.proofs.Equality.{same_text-tells}
-use Rattle.csi_world.specs.Model.World.{NodeAt}
-use Rattle.csi_world.specs.declared.auditing.lists.NodeLists.{NodeLists}
-use Rattle.csi_world.specs.Private.Listed.{AreDistinctTexts, node_listed, IsNodeAlike, AreNodesAlike, IsListOf, AreListsOf}
-use Rattle.csi_node.specs.Model.Record.{NodeParts}
-use Rattle.csi_world.specs.Model.Simulated.{AreNodesShown}
+use Rattle.csi_world.proofs.Words.{◌≡◌, List, [], ◌∷◌, map, Bool, true, false, cond, Some, find, refl, sym, ◌∙◌, ap}
+use Rattle.csi_world.proofs.Words.{subst, inl, inr, ◌++◌, list_any, IsAmong, same_text, NodeAt, NodeLists}
+use Rattle.csi_world.proofs.Words.{AreDistinctTexts, node_listed, IsNodeAlike, AreNodesAlike, IsListOf, AreListsOf}
+use Rattle.csi_world.proofs.Words.{NodeParts, AreNodesShown}
+use Rattle.csi_world.proofs.Lemmas.{false≢true, in-map, then-any, same_text-tells}
 
 -- ---- each node with the list of it
 

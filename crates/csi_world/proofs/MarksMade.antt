@@ -1,21 +1,12 @@
 -- Marks beside what is noted, one for each entry: whether its thing is among those that were gone through.
-use Rattle.std.proofs.Common.{◌≡◌, ℕ, zero, suc, ◌+◌, ◌<◌, List, [], ◌∷◌, ◌++◌, length, set, replicate, get_or, map, Bool, true, false, ◌||◌, take, Some, None, position, refl, sym, ◌∙◌, ap, subst, inl, inr}
-use Rattle.std.specs.List.{list_any, list_all}
-use Rattle.std.proofs.lemmas.Bool.{and_from}
-use Rattle.std.proofs.lemmas.List.{get_or_default, take_more}
+use Rattle.csi_world.proofs.Words.{◌≡◌, ℕ, zero, suc, ◌+◌, ◌<◌, List, [], ◌∷◌, ◌++◌, length, set, replicate, get_or}
+use Rattle.csi_world.proofs.Words.{map, Bool, true, false, ◌||◌, take, Some, None, position, refl, sym, ◌∙◌, ap, subst}
+use Rattle.csi_world.proofs.Words.{inl, inr, list_any, list_all, IsAmong, FirstAt, Thing, Known, Yes, IsInOrder}
+use Rattle.csi_world.proofs.Words.{same_thing, is_entry_listed, is_entry_of, is_noted}
+use Rattle.csi_world.proofs.Lemmas.{and_from, get_or_default, take_more, FirstAt-position, FirstAt-passes}
+use Rattle.csi_world.proofs.Lemmas.{find-no_place, any-find_none, then-any}
 use Rattle.std.proofs.lemmas.List.Folds.{list_any-append, list_all_at, list_all_more}
 use Rattle.std.proofs.lemmas.List.Quantifiers.{position-Some}
-use Rattle.csi_lists.specs.Model.Members.{IsAmong}
-use Rattle.csi_lists.specs.Public.Places.{FirstAt}
-use Rattle.csi_lists.proofs.Places.{FirstAt-position, FirstAt-passes}
-use Rattle.csi_lists.proofs.Searches.{find-no_place}
-use Rattle.csi_lists.proofs.Tests.{any-find_none, then-any}
-use Rattle.csi_orchestrator.specs.declared.thing.Thing.{Thing}
-use Rattle.csi_orchestrator.specs.declared.thing.Known.{Known}
-use Rattle.csi_orchestrator.specs.declared.thing.Known.TheVariants.{Yes}
-use Rattle.csi_orchestrator.specs.Public.Listing.{IsInOrder}
-use Rattle.csi_orchestrator.specs.Model.Thing.{same_thing}
-use Rattle.csi_world.specs.Private.Listed.{is_entry_listed, is_entry_of, is_noted}
 use Rattle.csi_world.proofs.MarksTold.{same-itself}
 use Rattle.csi_world.proofs.NamedCalls.{same-tells}
 use Rattle.csi_world.proofs.FoundByHalving.{at-place, later-other}

@@ -1,20 +1,10 @@
 -- What is known to be so is so, and what is known not to be so isn't, by the list of what holds; and what an audit finds then.
-use Rattle.std.proofs.Common.{◌≡◌, ◌≢◌, ◌↔◌, List, Bool, true, IsTrue, ◌&&◌, refl, sym, ◌∙◌, subst}
-use Rattle.std.specs.List.{list_all}
-use Rattle.std.proofs.lemmas.Bool.{and_parts, and_from, false≢true, false_from_ne_true}
-use Rattle.csi_lists.specs.Model.Members.{IsAmong}
-use Rattle.csi_lists.proofs.Tests.{all-then, then-all, any-then, then-any}
-use Rattle.csi_types.proofs.Equality.{same_text-tells}
-use Rattle.csi_orchestrator.specs.declared.thing.Thing.{Thing}
+use Rattle.csi_world.proofs.Words.{◌≡◌, ◌≢◌, ◌↔◌, List, Bool, true, IsTrue, ◌&&◌, refl, sym, ◌∙◌, subst, list_all}
+use Rattle.csi_world.proofs.Words.{IsAmong, Thing, Known, Yes, No, Maybe, ListsKnown, same_thing, World, holds}
+use Rattle.csi_world.proofs.Words.{AreMarkedRight, is_listed, is_noted, is_affirmed}
+use Rattle.csi_world.proofs.Lemmas.{and_parts, and_from, false≢true, false_from_ne_true, all-then, then-all, any-then}
+use Rattle.csi_world.proofs.Lemmas.{then-any, same_text-tells}
 use Rattle.csi_orchestrator.specs.declared.thing.Thing.TheVariants.{Exists, Attached, Staged, Published}
-use Rattle.csi_orchestrator.specs.declared.thing.Known.{Known}
-use Rattle.csi_orchestrator.specs.declared.thing.Known.TheVariants.{Yes, No, Maybe}
-use Rattle.csi_orchestrator.specs.Public.Listing.{ListsKnown}
-use Rattle.csi_orchestrator.specs.Model.Thing.{same_thing}
-use Rattle.csi_world.specs.Model.World.{World}
-use Rattle.csi_world.specs.Model.Safe.{holds}
-use Rattle.csi_world.specs.Public.Audited.{AreMarkedRight}
-use Rattle.csi_world.specs.Private.Listed.{is_listed, is_noted, is_affirmed}
 use Rattle.csi_world.proofs.NamedCalls.{same-tells}
 
 -- Yes isn't No

@@ -1,22 +1,14 @@
 -- A world with more frames under way: whatever may be chosen without them may be chosen with them, and leads to the same but for the frames. So
 -- where each world to which choices lead with more frames is safe, each one without them is.
-use Rattle.std.proofs.Common.{◌≡◌, List, [], ◌∷◌, ◌++◌, Option, Some, None, refl, sym, ◌∙◌, ap, subst, ⊎_elim}
-use Rattle.csi_types.specs.declared.call.Party.{Party}
-use Rattle.csi_types.specs.declared.call.Party.TheVariants.{Controller, Node}
-use Rattle.csi_types.specs.Model.Frame.{Frame}
-use Rattle.csi_lists.specs.Model.Members.{IsAmong}
-use Rattle.csi_lists.proofs.Members.{among-append, among-either, among-last}
+use Rattle.csi_world.proofs.Words.{◌≡◌, List, [], ◌∷◌, ◌++◌, Option, Some, None, refl, sym, ◌∙◌, ap, subst, ⊎_elim}
+use Rattle.csi_world.proofs.Words.{Party, Controller, Node, Frame, IsAmong, NodeState, Thing, Sent, frame_of, World}
+use Rattle.csi_world.proofs.Words.{node_state, with_node, with_frame, with_history, answered_by_node, answered_by}
+use Rattle.csi_world.proofs.Words.{holds, Safe, Choice, Sends, Takes, Answers, MayChoose, MayChooseAll, chosen}
+use Rattle.csi_world.proofs.Words.{chosen_all}
+use Rattle.csi_world.proofs.Lemmas.{among-append, among-either, among-last}
 use Rattle.csi_controller.specs.Model.Fenced as controller
-use Rattle.csi_node.specs.Model.State.{NodeState}
 use Rattle.csi_node.specs.Model.Fenced as node
-use Rattle.csi_orchestrator.specs.declared.thing.Thing.{Thing}
 use Rattle.csi_orchestrator.specs.declared.thing.Thing.TheVariants as things
-use Rattle.csi_orchestrator.specs.Model.History.{Sent}
-use Rattle.csi_orchestrator.specs.Public.Steps.{frame_of}
-use Rattle.csi_world.specs.Model.World.{World, node_state, with_node, with_frame, with_history}
-use Rattle.csi_world.specs.Model.Step.{answered_by_node, answered_by}
-use Rattle.csi_world.specs.Model.Safe.{holds, Safe}
-use Rattle.csi_world.specs.Public.Step.{Choice, Sends, Closes, Takes, Notes, Starts, Forgets, Answers, Joins, Loses, Configures, MayChoose, MayChooseAll, chosen, chosen_all}
 
 -- the world with these frames
 abbrev pub with_frames : List Frame → World → World
@@ -56,28 +48,15 @@ answer-more world frame frames (Node id) more = by (node_state id world)
 -- one choice
 chosen-more : (world : World) (frames : List Frame) (choice : Choice) → AreMore world.frames frames → LeadsOn (chosen (with_frames frames world) choice) (chosen world choice)
 chosen-more world frames (Sends issued) more = frame-more (Some (frame_of issued)) (with_history (Sent issued ∷ []) world) frames more
-chosen-more world frames (Closes number) more = record { frames = frames; same = refl; more = more }
-chosen-more world frames (Takes issued reply) more = record { frames = frames; same = refl; more = more }
-chosen-more world frames (Notes name goal) more = record { frames = frames; same = refl; more = more }
-chosen-more world frames (Starts session nodes) more = record { frames = frames; same = refl; more = more }
-chosen-more world frames (Forgets name) more = record { frames = frames; same = refl; more = more }
 chosen-more world frames (Answers frame) more = answer-more world frame frames frame.party more
-chosen-more world frames (Joins id) more = record { frames = frames; same = refl; more = more }
-chosen-more world frames (Loses id session nodes) more = record { frames = frames; same = refl; more = more }
-chosen-more world frames (Configures config) more = record { frames = frames; same = refl; more = more }
+chosen-more world frames other more = record { frames = frames; same = refl; more = more }
 
 -- it may be chosen
 may-more : (world : World) (frames : List Frame) (choice : Choice) → AreMore world.frames frames → MayChoose world choice → MayChoose (with_frames frames world) choice
 may-more world frames (Sends issued) more may = record { numbered = may.numbered; allowed = may.allowed }
-may-more world frames (Closes number) more may = may
 may-more world frames (Takes issued reply) more may = record { is_open = may.is_open; was_sent = more _ may.was_sent }
-may-more world frames (Notes name goal) more may = may
-may-more world frames (Starts session nodes) more may = may
-may-more world frames (Forgets name) more may = may
 may-more world frames (Answers frame) more may = more frame may
-may-more world frames (Joins id) more may = may
-may-more world frames (Loses id session nodes) more may = may
-may-more world frames (Configures config) more may = may
+may-more world frames other more may = may
 
 -- many choices may be made with more frames, and lead to the same with more frames
 pub record LeadOn (world : World) (frames : List Frame) (choices : List Choice) : Type 0 where
@@ -110,6 +89,4 @@ safe-fewer world frames safe =
   where
     holds-fewer : (thing : Thing) → holds world thing ≡ holds (with_frames frames world) thing
     holds-fewer (things.Exists name) = refl
-    holds-fewer (things.Attached name id) = refl
-    holds-fewer (things.Staged name id) = refl
-    holds-fewer (things.Published name id target) = refl
+    holds-fewer thing = refl

@@ -1,50 +1,31 @@
 -- Whatever an orchestrator does, each name for which it does something has a row then.
-use Rattle.std.proofs.Common.{◌≡◌, ◌⊎◌, ℕ, zero, suc, ◌<◌, List, [], ◌∷◌, ◌++◌, length, map, filter, filter_map, Bool, true, false, cond, not, Option, Some, None, ◌&&◌, ◌==◌, Result, Ok, Err, slice_get, refl, sym, ◌∙◌, ap, subst, inl, inr, arith, append_assoc, ◌+◌}
-use Rattle.std.specs.Prelude.{is_none, nat_le}
-use Rattle.std.specs.List.{cons_option}
-use Rattle.std.proofs.lemmas.Bool.{and_parts, false≢true}
-use Rattle.std.proofs.lemmas.Bool.Decides.{nat_tests}
-use Rattle.csi_types.specs.declared.rows.TheConstants.{MAX_ROWS}
-use Rattle.csi_types.specs.declared.call.Call.{Call}
+use Rattle.csi_world.proofs.Words.{◌≡◌, ◌⊎◌, ℕ, zero, suc, ◌<◌, List, [], ◌∷◌, ◌++◌, length, map, filter, filter_map}
+use Rattle.csi_world.proofs.Words.{Bool, true, false, cond, not, Option, Some, None, ◌&&◌, ◌==◌, Result, Ok, Err}
+use Rattle.csi_world.proofs.Words.{slice_get, refl, sym, ◌∙◌, ap, subst, inl, inr, arith, append_assoc, ◌+◌, is_none}
+use Rattle.csi_world.proofs.Words.{nat_le, cons_option, MAX_ROWS, Call, Kind, Party, Controller, Node, Event, Body}
+use Rattle.csi_world.proofs.Words.{Number, Reply, kind_of, Frame, is_ok_status, same_text, same_number, same_party}
+use Rattle.csi_world.proofs.Words.{same_kind, Exists, IsAmong, NodeState, OrchFault, Usage, Issued, Goal, Create, Use}
+use Rattle.csi_world.proofs.Words.{Stop, Delete, Item, Started, Lost, Forgotten, Accepted, Noted, History, with_items}
+use Rattle.csi_world.proofs.Words.{names_of, goal_of, open_call, tries, last_number, nodes_of, has_row, issued_in}
+use Rattle.csi_world.proofs.Words.{is_forgetting, next_number, create_fault, use_fault, use_room_fault, stop_fault}
+use Rattle.csi_world.proofs.Words.{delete_fault, delete_busy_fault, timeout_fault, restart_fault, loss_fault, Due}
+use Rattle.csi_world.proofs.Words.{due_for, due_call, Input, ToCreate, ToUse, ToStop, ToDelete, TimesOut, Comes}
+use Rattle.csi_world.proofs.Words.{Restarts, Answer, Hears, Moved, met_already, moves, send_due, sent_as, command}
+use Rattle.csi_world.proofs.Words.{use_when, delete_when, is_forward_due, undoing_goal, closing, timeout}
+use Rattle.csi_world.proofs.Words.{is_number_open, call_replied, hears, heard, heard_refusal, deliver, is_forgotten}
+use Rattle.csi_world.proofs.Words.{forgetting, stopping, stopping_all, restart, lose, IsWellFormed, moved_to, MayDoAll}
+use Rattle.csi_world.proofs.Words.{AreStepwise, World, node_state, with_history, answered_by_plugin, Occurred}
+use Rattle.csi_world.proofs.Words.{by_answer, by_result, orchestrated, called_at, called, delivered_body, delivered}
+use Rattle.csi_world.proofs.Words.{restarted_at, joined_at, lost_by, is_node_of, occurs}
+use Rattle.csi_world.proofs.Lemmas.{and_parts, false≢true, nat_tests, same_text-tells, find-passes, then-any, open-sent}
 use Rattle.csi_types.specs.declared.call.Call.TheVariants as calls
-use Rattle.csi_types.specs.declared.call.Kind.{Kind}
-use Rattle.csi_types.specs.declared.call.Party.{Party}
-use Rattle.csi_types.specs.declared.call.Party.TheVariants.{Controller, Node}
-use Rattle.csi_types.specs.declared.event.Event.{Event}
 use Rattle.csi_types.specs.declared.event.Event.TheVariants as events
-use Rattle.csi_types.specs.declared.frame.Body.{Body}
 use Rattle.csi_types.specs.declared.frame.Body.TheVariants as bodies
-use Rattle.csi_types.specs.declared.number.Number.{Number}
-use Rattle.csi_types.specs.declared.reply.Reply.{Reply}
-use Rattle.csi_types.specs.Model.Call.{kind_of}
-use Rattle.csi_types.specs.Model.Frame.{Frame}
-use Rattle.csi_types.specs.Model.Reply.{is_ok_status}
-use Rattle.csi_types.specs.Model.Same.{same_text, same_number, same_party, same_kind}
-use Rattle.csi_types.specs.Public.PluginThing.{Exists}
-use Rattle.csi_types.proofs.Equality.{same_text-tells}
-use Rattle.csi_lists.specs.Model.Members.{IsAmong}
-use Rattle.csi_lists.proofs.Searches.{find-passes}
-use Rattle.csi_lists.proofs.Tests.{then-any}
-use Rattle.csi_node.specs.Model.State.{NodeState}
 use Rattle.csi_orchestrator.specs.declared.fault.Heard.TheVariants as heards
-use Rattle.csi_orchestrator.specs.declared.fault.OrchFault.{OrchFault}
 use Rattle.csi_orchestrator.specs.declared.fault.OrchFault.TheVariants as faults
-use Rattle.csi_orchestrator.specs.declared.request.Usage.{Usage}
-use Rattle.csi_orchestrator.specs.Model.Thing.{Issued}
-use Rattle.csi_orchestrator.specs.Model.History.{Goal, Create, Use, Stop, Delete, Item, Started, Lost, Forgotten, Accepted, Noted, History, with_items}
-use Rattle.csi_orchestrator.specs.Model.Readings.{names_of, goal_of, open_call, tries, last_number, nodes_of, has_row, issued_in, is_forgetting}
-use Rattle.csi_orchestrator.specs.Model.Commands.{next_number, create_fault, use_fault, use_room_fault, stop_fault, delete_fault, delete_busy_fault, timeout_fault, restart_fault, loss_fault}
-use Rattle.csi_orchestrator.specs.Model.Due.{Due, due_for, due_call}
-use Rattle.csi_orchestrator.specs.Model.Moves.{Input, ToCreate, ToUse, ToStop, ToDelete, TimesOut, Comes, Restarts, Loses, Answer, Sends, Hears, Restarted, GivenUp, Moved, met_already, moves, send_due, sent_as, command, use_when, delete_when, is_forward_due, undoing_goal, closing, timeout, is_number_open, call_replied, hears, heard, heard_refusal, deliver, is_forgotten, forgetting, stopping, stopping_all, restart, lose, without_node}
-use Rattle.csi_orchestrator.specs.Model.WellFormed.{IsWellFormed}
-use Rattle.csi_orchestrator.specs.Public.Moves.{moved_to}
-use Rattle.csi_orchestrator.specs.Public.Steps.{MayDoAll, AreStepwise}
-use Rattle.csi_orchestrator.proofs.Numbers.{open-sent}
+use Rattle.csi_orchestrator.specs.Model.Moves.{Loses, Sends, without_node}
 use Rattle.csi_orchestrator.proofs.SinceItems.{forgets-break, open-since}
 use Rattle.csi_world.specs.declared.outcomes.Outcome.TheVariants as outcomes
-use Rattle.csi_world.specs.Model.World.{World, node_state, with_history}
-use Rattle.csi_world.specs.Model.Step.{answered_by_plugin}
-use Rattle.csi_world.specs.Model.After.{Occurred, by_answer, by_result, orchestrated, called_at, called, delivered_body, delivered, restarted_at, joined_at, lost_by, is_node_of, occurs}
 use Rattle.csi_world.proofs.Lifetimes.{calls_since, lifetime-is}
 use Rattle.csi_world.proofs.NamesRowed.{AreRowed, IsFit, AreFit, items-rowed, noted-row}
 use Rattle.csi_world.proofs.PluginsReached.{answered-history}
@@ -189,13 +170,10 @@ heard-fit history reply (Some issued) row = by (is_ok_status reply.status)
 
     refused : (call : Call) → AllFit history (heard_refusal history issued accepted call)
     refused (calls.CreateVolume name required limit capabilities) = (inl own, (tt, tt))
-    refused (calls.DeleteVolume id) = undone false
     refused (calls.ControllerPublishVolume id node capability readonly) = undone true
-    refused (calls.ControllerUnpublishVolume id node) = undone false
     refused (calls.NodeStageVolume id capability) = undone true
-    refused (calls.NodeUnstageVolume id) = undone false
     refused (calls.NodePublishVolume id target capability readonly) = undone true
-    refused (calls.NodeUnpublishVolume id target) = undone false
+    refused call = undone false
 
     by : (b : Bool) → AllFit history (cond b (send_due history issued.name hears (accepted ∷ [])) (heard_refusal history issued accepted issued.call))
     by true = sent-fit history issued.name hears (accepted ∷ []) (tt, tt) own
@@ -245,10 +223,7 @@ stopping-fit history node first (name ∷ names) rows fit = by (goal_of history 
         at : (b : Bool) → KeepRows history first (cons_option (cond b (Some (Noted name (Some (Stop usage.node usage.target)))) None) (stops_of history node names))
         at true = noted-keeps history first (stops_of history node names) name (Some (Stop usage.node usage.target)) row kept
         at false = kept
-    by (Some (Create arguments)) row kept = kept
-    by (Some (Stop there target)) row kept = kept
-    by (Some Delete) row kept = kept
-    by None row kept = kept
+    by goal row kept = kept
 
 -- a name among those that have rows has one
 among-row : (history : History) (name : List ℕ) → IsAmong name (names_of history) → has_row history name ≡ true
@@ -300,12 +275,8 @@ input-moved world input = by (moves world.history input)
   where
     answered : (next : World) (answer : Answer) → (by_answer next answer).world.history ≡ next.history
     answered next (Sends None) = refl
-    answered next (Sends (Some frame)) = refl
-    answered next (Hears heards.Ignored) = refl
     answered next (Hears (heards.Taken None)) = refl
-    answered next (Hears (heards.Taken (Some frame))) = refl
-    answered next Restarted = refl
-    answered next GivenUp = refl
+    answered next answer = refl
 
     by : (result : Result Moved OrchFault) → (by_result world result).world.history ≡ moved_to world.history result
     by (Ok moved) = answered (with_history moved.items world) moved.answer

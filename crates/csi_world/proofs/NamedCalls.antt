@@ -1,23 +1,12 @@
 -- Names and ids of the calls that were sent: each is for a volume of its name, by the id that the name has now if it was sent since the name
 -- was forgotten last; and a thing by its name and by that id.
-use Rattle.std.proofs.Common.{◌≡◌, ℕ, List, true, Some, sym, ◌∙◌, ap, subst, inl, inr, ⊎_elim, ◌==◌, ◌&&◌}
-use Rattle.std.proofs.lemmas.Bool.{and_parts, and_from, eqb-true, eq-eqb, false≢true}
-use Rattle.csi_types.specs.declared.capability.Capability.{Capability}
-use Rattle.csi_types.specs.declared.call.Call.{Call}
+use Rattle.csi_world.proofs.Words.{◌≡◌, ℕ, List, true, Some, sym, ◌∙◌, ap, subst, inl, inr, ⊎_elim, ◌==◌, ◌&&◌}
+use Rattle.csi_world.proofs.Words.{Capability, Call, Party, Controller, Node, Reply, Frame, PluginThing, Exists}
+use Rattle.csi_world.proofs.Words.{same_plugin_thing, same_text, IsAmong, Thing, Item, issued_in, Issued, is_thing}
+use Rattle.csi_world.proofs.Words.{same_thing, touches}
+use Rattle.csi_world.proofs.Lemmas.{and_parts, and_from, eqb-true, eq-eqb, false≢true, same_text-tells}
 use Rattle.csi_types.specs.declared.call.Call.TheVariants as calls
-use Rattle.csi_types.specs.declared.call.Party.{Party}
-use Rattle.csi_types.specs.declared.call.Party.TheVariants.{Controller, Node}
-use Rattle.csi_types.specs.declared.reply.Reply.{Reply}
-use Rattle.csi_types.specs.Model.Frame.{Frame}
-use Rattle.csi_types.specs.Public.PluginThing.{PluginThing, Exists, same_plugin_thing}
-use Rattle.csi_types.specs.Model.Same.{same_text}
-use Rattle.csi_types.proofs.Equality.{same_text-tells}
-use Rattle.csi_lists.specs.Model.Members.{IsAmong}
-use Rattle.csi_orchestrator.specs.declared.thing.Thing.{Thing}
 use Rattle.csi_orchestrator.specs.declared.thing.Thing.TheVariants as things
-use Rattle.csi_orchestrator.specs.Model.History.{Item}
-use Rattle.csi_orchestrator.specs.Model.Readings.{issued_in}
-use Rattle.csi_orchestrator.specs.Model.Thing.{Issued, is_thing, same_thing, touches}
 use Rattle.csi_world.proofs.GivenIds.{GivenId, HasNow, HasOld, HasName, AreGiven}
 use Rattle.csi_world.proofs.CallThings.{IsFor, IsOwn, IsOwnNow, IsOwnOld, IsOne, IsThingBy, Existence, Attachment, Staging, Publication, IsAnsweredOk, of_thing, is_of, is_plugin_thing}
 use Rattle.csi_world.proofs.Lifetimes.{calls_since, calls_before, since-or-before}

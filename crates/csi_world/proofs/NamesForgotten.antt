@@ -1,34 +1,16 @@
 -- What is so of a world after its orchestrator forgot a name.
-use Rattle.std.proofs.Common.{◌≡◌, ◌⊎◌, ℕ, ◌<◌, List, [], ◌∷◌, map, Bool, true, false, cond, if◌then◌else◌, Option, Some, None, option_map, find, IsTrue, ◌==◌, ◌&&◌, refl, sym, ◌∙◌, ap, subst, inl, inr, ⊎_elim, arith}
-use Rattle.std.proofs.lemmas.Bool.{and_parts, false≢true, or_cases, or_left, or_right}
-use Rattle.std.proofs.lemmas.Bool.Decides.{nat_tests}
-use Rattle.std.proofs.lemmas.Option.{none-some, same_Some}
-use Rattle.csi_types.specs.declared.number.Number.{Number}
-use Rattle.csi_types.specs.declared.capability.Capability.{Capability}
-use Rattle.csi_types.specs.declared.call.Call.{Call}
+use Rattle.csi_world.proofs.Words.{◌≡◌, ◌⊎◌, ℕ, ◌<◌, List, [], ◌∷◌, map, Bool, true, false, cond, if◌then◌else◌, Option}
+use Rattle.csi_world.proofs.Words.{Some, None, option_map, find, IsTrue, ◌==◌, ◌&&◌, refl, sym, ◌∙◌, ap, subst, inl}
+use Rattle.csi_world.proofs.Words.{inr, ⊎_elim, arith, Number, Capability, Call, Party, Controller, Node, Reply, Status}
+use Rattle.csi_world.proofs.Words.{IsBefore, same_text, PluginThing, Exists, Attached, Staged, Published, HasId}
+use Rattle.csi_world.proofs.Words.{is_over, IsAmong, Volume, ControllerState, volume_with_id, No, Issued, touches}
+use Rattle.csi_world.proofs.Words.{is_doing, Item, Accepted, Forgotten, History, with_items, since, issued_in}
+use Rattle.csi_world.proofs.Words.{last_number, known, has_success, MayForget, World, node_state, with_history}
+use Rattle.csi_world.proofs.Lemmas.{and_parts, false≢true, or_cases, or_left, or_right, nat_tests, none-some, same_Some}
+use Rattle.csi_world.proofs.Lemmas.{same_text-tells, among-map, in-map, none_passes, none-from_map}
 use Rattle.csi_types.specs.declared.call.Call.TheVariants as calls
-use Rattle.csi_types.specs.declared.call.Party.{Party}
-use Rattle.csi_types.specs.declared.call.Party.TheVariants.{Controller, Node}
-use Rattle.csi_types.specs.declared.reply.Reply.{Reply}
-use Rattle.csi_types.specs.declared.status.Status.{Status}
-use Rattle.csi_types.specs.Model.Number.{IsBefore}
-use Rattle.csi_types.specs.Model.Same.{same_text}
-use Rattle.csi_types.specs.Public.PluginThing.{PluginThing, Exists, Attached, Staged, Published, HasId}
-use Rattle.csi_types.proofs.Equality.{same_text-tells}
-use Rattle.csi_fence.specs.Model.Fence.{is_over}
-use Rattle.csi_lists.specs.Model.Members.{IsAmong}
-use Rattle.csi_lists.proofs.Members.{among-map, in-map, none_passes}
-use Rattle.csi_lists.proofs.Options.{none-from_map}
-use Rattle.csi_controller.specs.Model.State.{Volume, ControllerState}
-use Rattle.csi_controller.specs.Public.State.{volume_with_id}
 use Rattle.csi_controller.specs.Public.View as controllers
 use Rattle.csi_orchestrator.specs.declared.thing.Thing.TheVariants as things
-use Rattle.csi_orchestrator.specs.declared.thing.Known.TheVariants.{No}
-use Rattle.csi_orchestrator.specs.Model.Thing.{Issued, touches, is_doing}
-use Rattle.csi_orchestrator.specs.Model.History.{Item, Accepted, Forgotten, History, with_items}
-use Rattle.csi_orchestrator.specs.Model.Readings.{since, issued_in, last_number, known, has_success}
-use Rattle.csi_orchestrator.specs.Public.Steps.{MayForget}
-use Rattle.csi_world.specs.Model.World.{World, node_state, with_history}
 use Rattle.csi_world.proofs.WorldView.{over_at, view_of}
 use Rattle.csi_world.proofs.GivenIds.{GivenId, HasNow, HasOld, HasName, AreGiven, AreOf, now-given, unlive-ended, is_given, is_forgotten, gone-forgotten, forgotten-gone}
 use Rattle.csi_world.proofs.CallThings.{IsAnsweredOk, IsOwnNow, IsOwnOld, Existence, plugin_thing_at, is_plugin_thing, is_of, is_making}
@@ -77,14 +59,7 @@ module _ (name : List ℕ) (given : List GivenId) where
   abbrev after : List GivenId
   after = map (let_go name) given
 
-  -- what is let go keeps its name and its id
-  let_go-name : (one : GivenId) → (let_go name one).name ≡ one.name
-  let_go-name one = by (same_text one.name name)
-    where
-      by : (b : Bool) → (cond b (let g : GivenId = record one { now = false } in g) one).name ≡ one.name
-      by true = refl
-      by false = refl
-
+  -- what is let go keeps its id
   let_go-id : (one : GivenId) → (let_go name one).id ≡ one.id
   let_go-id one = by (same_text one.name name)
     where

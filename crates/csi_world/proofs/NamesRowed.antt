@@ -1,25 +1,17 @@
 -- Which names have rows: each of which something is wanted, or for which a call was sent since it was forgotten. Of a name without a row no
 -- volume is known, and there are few with one.
-use Rattle.std.proofs.Common.{◌≡◌, ◌⊎◌, ℕ, ◌<◌, ◌≤◌, List, [], ◌∷◌, length, find, Bool, true, false, cond, not, Option, Some, None, ◌||◌, refl, sym, ◌∙◌, ap, subst, inl, inr, ⊎_elim, arith}
-use Rattle.std.specs.List.{list_any}
-use Rattle.std.proofs.lemmas.Bool.{false≢true}
-use Rattle.std.proofs.lemmas.Option.{none-some}
-use Rattle.csi_types.specs.declared.rows.TheConstants.{MAX_ROWS}
-use Rattle.csi_types.specs.declared.number.Number.{Number}
-use Rattle.csi_types.specs.Model.Same.{same_text}
-use Rattle.csi_types.specs.Public.PluginThing.{Exists}
-use Rattle.csi_types.proofs.Equality.{same_text-tells}
-use Rattle.csi_lists.specs.Model.Members.{IsAmong}
+use Rattle.csi_world.proofs.Words.{◌≡◌, ◌⊎◌, ℕ, ◌<◌, ◌≤◌, List, [], ◌∷◌, length, find, Bool, true, false, cond, not}
+use Rattle.csi_world.proofs.Words.{Option, Some, None, ◌||◌, refl, sym, ◌∙◌, ap, subst, inl, inr, ⊎_elim, arith}
+use Rattle.csi_world.proofs.Words.{list_any, MAX_ROWS, Number, same_text, Exists, IsAmong, Thing, Yes, No, Maybe}
+use Rattle.csi_world.proofs.Words.{Issued, name_in, is_thing, touches, does, is_no, thing_of, Goal, Item, Started, Lost}
+use Rattle.csi_world.proofs.Words.{Forgotten, Sent, Accepted, Closed, Noted, History, with_items, names_of, with_name}
+use Rattle.csi_world.proofs.Words.{known, known_by, goal_of, has_row, has_success, is_success_of, issued_in, since}
+use Rattle.csi_world.proofs.Lemmas.{false≢true, none-some, same_text-tells, any-then, then-any, forgotten-follows}
+use Rattle.csi_world.proofs.Lemmas.{noted-follows}
+use Rattle.csi_orchestrator.proofs.RowViews.{told_by as view_of}
 use Rattle.csi_lists.proofs.Filters.{filter-no_longer}
-use Rattle.csi_lists.proofs.Tests.{any-then, then-any}
-use Rattle.csi_orchestrator.specs.declared.thing.Thing.{Thing}
 use Rattle.csi_orchestrator.specs.declared.thing.Thing.TheVariants as things
-use Rattle.csi_orchestrator.specs.declared.thing.Known.TheVariants.{Yes, No, Maybe}
-use Rattle.csi_orchestrator.specs.Model.Agrees.{OrchestratorView, Agrees}
-use Rattle.csi_orchestrator.specs.Model.Thing.{Issued, name_in, is_thing, touches, does, is_no, thing_of}
-use Rattle.csi_orchestrator.specs.Model.History.{Goal, Item, Started, Lost, Forgotten, Sent, Accepted, Closed, Noted, History, with_items}
-use Rattle.csi_orchestrator.specs.Model.Readings.{nodes_of, names_of, with_name, known, known_by, id_of, goal_of, arguments_of, held, open_call, tries, last_number, has_row, has_success, is_success_of, issued_in, since}
-use Rattle.csi_orchestrator.proofs.ViewsFollow.{forgotten-follows, noted-follows}
+use Rattle.csi_orchestrator.specs.Model.Agrees.{Agrees}
 use Rattle.csi_world.proofs.KnownThings.{at-named}
 use Rattle.csi_world.proofs.Lifetimes.{ends, calls_since, calls_for}
 use Rattle.csi_world.proofs.NamedCalls.{same-tells}
@@ -40,22 +32,7 @@ IsFit history item = Unit {0}
 
 -- ---- a history, as it is read
 
-abbrev pub view_of : History → OrchestratorView
-view_of history =
-    record {
-      nodes = nodes_of history;
-      last = last_number history;
-      rows = has_row history;
-      marks = known history;
-      ids = id_of history;
-      goals = goal_of history;
-      arguments = arguments_of history;
-      holdings = held history;
-      open_calls = open_call history;
-      counts = tries history;
-    }
-
--- agrees with itself
+-- what a history tells, as it would be shown, agrees with itself
 pub agrees-itself : (history : History) → Agrees (view_of history) history
 agrees-itself history =
     record { same_nodes = refl; same_last = refl; same_rows = λ name. refl; same_marks = λ thing. refl; same_ids = λ name. refl; same_goals = λ name. refl; same_arguments = λ name. refl; same_holdings = λ name node there. refl; same_open_calls = λ name. refl; same_counts = λ name. refl }

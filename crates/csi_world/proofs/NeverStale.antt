@@ -1,44 +1,24 @@
 -- No open call is stale, in any world: what is kept of each row, and of each frame that is on its way.
-use Rattle.std.proofs.Common.{◌≡◌, ◌⊎◌, ℕ, ◌≤◌, ◌<◌, List, [], ◌∷◌, map, not, Bool, true, false, cond, Option, Some, None, is_some, refl, sym, ◌∙◌, ap, subst, inl, inr, ⊎_elim, arith}
-use Rattle.std.specs.Prelude.{◌&&◌, codes}
-use Rattle.std.proofs.lemmas.Bool.{and_parts, false≢true, true≢false}
-use Rattle.std.proofs.lemmas.Option.{none-some, same_Some}
-use Rattle.csi_types.specs.declared.number.Number.{Number}
-use Rattle.csi_types.specs.declared.call.Call.{Call}
-use Rattle.csi_types.specs.declared.call.Kind.{Kind}
-use Rattle.csi_types.specs.declared.call.Party.{Party}
-use Rattle.csi_types.specs.declared.call.Party.TheVariants.{Controller, Node}
-use Rattle.csi_types.specs.declared.frame.Body.{Body}
+use Rattle.csi_world.proofs.Words.{◌≡◌, ◌⊎◌, ℕ, ◌≤◌, ◌<◌, List, [], ◌∷◌, map, not, Bool, true, false, cond, Option}
+use Rattle.csi_world.proofs.Words.{Some, None, is_some, refl, sym, ◌∙◌, ap, subst, inl, inr, ⊎_elim, arith, ◌&&◌, codes}
+use Rattle.csi_world.proofs.Words.{Number, Call, Kind, Party, Controller, Node, Body, Reply, kind_of, Config, Frame}
+use Rattle.csi_world.proofs.Words.{IsBefore, reply_frame, same_text, same_number, same_party, same_kind, IsAmong}
+use Rattle.csi_world.proofs.Words.{Fenced, answered_only, unanswered, Volume, ControllerState, NodeState, Issued, Item}
+use Rattle.csi_world.proofs.Words.{Started, Forgotten, Sent, Accepted, Closed, Noted, with_items, is_number_open}
+use Rattle.csi_world.proofs.Words.{issued_in, last_number, open_in, open_call, is_aborted, is_stale_reply}
+use Rattle.csi_world.proofs.Words.{is_stale_body, call_answered, frame_of, NodeAt, World, empty_world, node_id}
+use Rattle.csi_world.proofs.Words.{new_node, node_state, with_state, with_frame, answered_by, answered_by_node}
+use Rattle.csi_world.proofs.Words.{answered_by_plugin, Choice, Sends, Closes, Takes, Notes, Starts, Forgets, Answers}
+use Rattle.csi_world.proofs.Words.{Joins, Loses, Configures, MayChoose, MayChooseAll, chosen, chosen_all, with_node}
+use Rattle.csi_world.proofs.Words.{call_frame, stale_reply}
+use Rattle.csi_world.proofs.Lemmas.{and_parts, false≢true, true≢false, none-some, same_Some, same_text-tells}
+use Rattle.csi_world.proofs.Lemmas.{same_number-tells, among-either, among-filter, among-map, find-passes, IsOrderly}
+use Rattle.csi_world.proofs.Lemmas.{came_orderly, open-sent, unless-some}
 use Rattle.csi_types.specs.declared.frame.Body.TheVariants as bodies
-use Rattle.csi_types.specs.declared.reply.Reply.{Reply}
-use Rattle.csi_types.specs.Model.Call.{kind_of}
-use Rattle.csi_types.specs.Model.Config.{Config}
-use Rattle.csi_types.specs.Model.Frame.{Frame}
-use Rattle.csi_types.specs.Model.Number.{IsBefore}
-use Rattle.csi_types.specs.Model.Replies.{reply_frame}
-use Rattle.csi_types.specs.Model.Same.{same_text, same_number, same_party, same_kind}
-use Rattle.csi_types.proofs.Equality.{same_text-tells, same_number-tells}
-use Rattle.csi_lists.specs.Model.Members.{IsAmong}
-use Rattle.csi_lists.proofs.Members.{among-either, among-filter, among-map}
-use Rattle.csi_lists.proofs.Searches.{find-passes}
-use Rattle.csi_fence.specs.Model.Fenced.{Fenced, answered_only, unanswered}
-use Rattle.csi_controller.specs.Model.State.{Volume, ControllerState}
 use Rattle.csi_controller.specs.Model.Fenced as controllers
-use Rattle.csi_controller.proofs.OrderlyStates.{IsOrderly, came_orderly}
-use Rattle.csi_node.specs.Model.State.{NodeState}
 use Rattle.csi_node.specs.Model.Fenced as nodes
-use Rattle.csi_orchestrator.specs.Model.Thing.{Issued}
-use Rattle.csi_orchestrator.specs.Model.History.{Item, Started, Forgotten, Sent, Accepted, Closed, Noted, with_items}
-use Rattle.csi_orchestrator.specs.Model.Moves.{is_number_open}
-use Rattle.csi_orchestrator.specs.Model.Readings.{issued_in, last_number, open_in, open_call}
-use Rattle.csi_orchestrator.specs.Public.Stale.{is_aborted, is_stale_reply, is_stale_body, call_answered}
-use Rattle.csi_orchestrator.specs.Public.Steps.{frame_of}
-use Rattle.csi_orchestrator.proofs.Numbers.{open-sent, unless-some}
-use Rattle.csi_world.specs.Model.World.{NodeAt, World, empty_world, node_id, new_node, node_state, with_state, with_frame}
-use Rattle.csi_world.specs.Model.Step.{answered_by, answered_by_node, answered_by_plugin}
 use Rattle.csi_world.specs.Public.Laws.{HoldsInEveryWorld}
 use Rattle.csi_world.specs.Public.Stale.{TellsNoneStale}
-use Rattle.csi_world.specs.Public.Step.{Choice, Sends, Closes, Takes, Notes, Starts, Forgets, Answers, Joins, Loses, Configures, MayChoose, MayChooseAll, chosen, chosen_all}
 use Rattle.csi_world.proofs.PluginsReached.{found-at, knows-nothing}
 use Rattle.csi_world.proofs.CallThings.{IsOwn, one-number, before-irreflexive}
 use Rattle.csi_world.proofs.Deliveries.{PluginLaws}
@@ -47,10 +27,8 @@ use Rattle.csi_world.proofs.NamedCalls.{own}
 use Rattle.csi_world.proofs.RightWorlds.{IsRight, after-all}
 use Rattle.csi_world.proofs.ChoicesRight.{chosen-right, empty-right}
 use Rattle.csi_world.proofs.HeardNumbers.{HasHeard, all-heard, empty-heard}
-use Rattle.csi_world.specs.Model.World.{with_node}
 use Rattle.csi_world.proofs.JudgedCalls.{call-so, low-call}
 use Rattle.csi_world.proofs.Floors.{under}
-use Rattle.csi_types.specs.Model.Replies.{call_frame, stale_reply}
 use Rattle.csi_world.proofs.RepliesTold.{IsSent}
 use Rattle.csi_world.proofs.KeptCalls.{IsCalled, ControllerKeeps, NodeKeeps, controller-keeps, node-keeps}
 use Rattle.csi_world.proofs.OpenCalls.{open-latest, is_late, IsPlainReply, parts-plain, IsNewest, controller-answers, node-answers, IsNumbered, answer-numbered, node-numbered}

@@ -1,36 +1,19 @@
 -- The rows of nodes: each is of another volume, and of a call that was sent to the node for it.
-use Rattle.std.proofs.Common.{◌≡◌, ◌⊎◌, ℕ, ◌<◌, ◌≤◌, List, [], ◌∷◌, map, not, Bool, true, false, cond, Option, Some, None, ◌==◌, refl, sym, ◌∙◌, ap, subst, inl, inr, ⊎_elim}
-use Rattle.std.specs.Prelude.{is_some}
-use Rattle.std.proofs.lemmas.Bool.{eqb-true}
-use Rattle.csi_types.specs.declared.number.Number.{Number}
-use Rattle.csi_types.specs.declared.call.Call.{Call}
-use Rattle.csi_types.specs.declared.call.Party.{Party}
-use Rattle.csi_types.specs.declared.call.Party.TheVariants.{Controller, Node}
-use Rattle.csi_types.specs.declared.frame.Body.{Body}
+use Rattle.csi_world.proofs.Words.{◌≡◌, ◌⊎◌, ℕ, ◌<◌, ◌≤◌, List, [], ◌∷◌, map, not, Bool, true, false, cond, Option}
+use Rattle.csi_world.proofs.Words.{Some, None, ◌==◌, refl, sym, ◌∙◌, ap, subst, inl, inr, ⊎_elim, is_some, Number, Call}
+use Rattle.csi_world.proofs.Words.{Party, Controller, Node, Body, kind_of, Config, Frame, stale_reply, same_text}
+use Rattle.csi_world.proofs.Words.{same_party, IsAmong, EachTwo, Kept, Fenced, answered_only, unanswered, fenced_parts}
+use Rattle.csi_world.proofs.Words.{NodeState, AnsweredVolume, joined_node, staged_of, row_with_id, volume_of}
+use Rattle.csi_world.proofs.Words.{after_frames, Issued, issued_in, NodeAt, World, empty_world, node_id, new_node}
+use Rattle.csi_world.proofs.Words.{node_state, with_state, with_node, with_frame, answered_by, answered_by_node, Choice}
+use Rattle.csi_world.proofs.Words.{Sends, Answers, Joins, Loses, MayChoose, MayChooseAll, chosen, chosen_all}
+use Rattle.csi_world.proofs.Lemmas.{eqb-true, same_text-tells, among-either, among-filter, among-map, none_passes}
+use Rattle.csi_world.proofs.Lemmas.{two-append, two-filter, two-map, two-more, Carried, no_room, has_room, was_carried}
+use Rattle.csi_world.proofs.Lemmas.{kept_of, changed-rows, kept_in-id}
 use Rattle.csi_types.specs.declared.frame.Body.TheVariants as bodies
-use Rattle.csi_types.specs.Model.Call.{kind_of}
-use Rattle.csi_types.specs.Model.Config.{Config}
-use Rattle.csi_types.specs.Model.Frame.{Frame}
-use Rattle.csi_types.specs.Model.Replies.{stale_reply}
-use Rattle.csi_types.specs.Model.Same.{same_text, same_party}
-use Rattle.csi_types.proofs.Equality.{same_text-tells}
-use Rattle.csi_lists.specs.Model.Members.{IsAmong, EachTwo}
-use Rattle.csi_lists.proofs.Members.{among-either, among-filter, among-map, none_passes}
-use Rattle.csi_lists.proofs.Pairs.{two-append, two-filter, two-map, two-more}
-use Rattle.csi_fence.specs.Model.Fence.{Kept}
-use Rattle.csi_fence.specs.Model.Fenced.{Fenced, answered_only, unanswered, fenced_parts}
 use Rattle.csi_fence.proofs.FramesKeep.{frames_keep}
-use Rattle.csi_node.specs.Model.State.{NodeState, AnsweredVolume, joined_node, staged_of, row_with_id, volume_of}
 use Rattle.csi_node.specs.Model.Table as table
 use Rattle.csi_node.specs.Model.Fenced as nodes
-use Rattle.csi_node.specs.Public.Fenced.{after_frames}
-use Rattle.csi_node.proofs.CarriedOut.{Carried, no_room, has_room, was_carried, kept_of}
-use Rattle.csi_node.proofs.LastCalls.{changed-rows, kept_in-id}
-use Rattle.csi_orchestrator.specs.Model.Thing.{Issued}
-use Rattle.csi_orchestrator.specs.Model.Readings.{issued_in}
-use Rattle.csi_world.specs.Model.World.{NodeAt, World, empty_world, node_id, new_node, node_state, with_state, with_node, with_frame}
-use Rattle.csi_world.specs.Model.Step.{answered_by, answered_by_node}
-use Rattle.csi_world.specs.Public.Step.{Choice, Sends, Closes, Takes, Notes, Starts, Forgets, Answers, Joins, Loses, Configures, MayChoose, MayChooseAll, chosen, chosen_all}
 use Rattle.csi_world.proofs.PluginsReached.{found-at, knows-nothing}
 use Rattle.csi_world.proofs.Deliveries.{PluginLaws}
 use Rattle.csi_world.proofs.RightWorlds.{IsRight}
@@ -156,11 +139,6 @@ node-called issued node state number (bodies.Reply kind reply) of called = calle
 -- so it is by each choice that may be made
 chosen-called : (world : World) (choice : Choice) → IsRight world → MayChoose world choice → AllCalled world → AllCalled (chosen world choice)
 chosen-called world (Sends issued) right may called = λ at among row here. more-called issued (issued_in world.history.items) at.id row (called at among row here)
-chosen-called world (Closes number) right may called = called
-chosen-called world (Takes issued reply) right may called = called
-chosen-called world (Notes name goal) right may called = called
-chosen-called world (Starts session ns) right may called = called
-chosen-called world (Forgets name) right may called = called
 chosen-called world (Answers frame) right may called = by frame.party refl
   where
     issued : List Issued
@@ -208,7 +186,7 @@ chosen-called world (Joins node) right may called = λ at among.
     ⊎_elim (λ there. called at there) (λ e row here. absurd (subst (λ (n : NodeAt). IsAmong row n.state.rows) e here))
     (among-either world.nodes (new_node _ node) at among)
 chosen-called world (Loses node session ns) right may called = λ at among. called at (among-filter (λ (n : NodeAt). not (same_text n.id node)) world.nodes at among)
-chosen-called world (Configures config) right may called = called
+chosen-called world other right may called = called
 
 -- and by many
 pub all-called : PluginLaws → (world : World) (choices : List Choice) → IsRight world → MayChooseAll world choices → AllCalled world → AllCalled (chosen_all world choices)

@@ -1,15 +1,9 @@
 -- What is so of a world after a node joined.
-use Rattle.std.proofs.Common.{◌≡◌, ℕ, ◌<◌, ◌≤◌, List, Bool, true, false, cond, Option, Some, None, IsTrue, refl, sym, ◌∙◌, ap, inl, ⊎_elim, arith}
-use Rattle.std.proofs.lemmas.Bool.{or_cases, or_left, or_right}
-use Rattle.std.proofs.lemmas.Option.{none-some}
-use Rattle.csi_types.specs.declared.number.Number.{Number}
-use Rattle.csi_types.specs.Model.Same.{same_text}
-use Rattle.csi_types.specs.Public.PluginThing.{PluginThing, Exists, Attached, Staged, Published}
-use Rattle.csi_fence.specs.Model.Fence.{Kept, is_over}
-use Rattle.csi_node.specs.Model.State.{NodeState, joined_node}
-use Rattle.csi_orchestrator.specs.Model.History.{Item}
-use Rattle.csi_orchestrator.specs.Model.Readings.{issued_in, last_number}
-use Rattle.csi_world.specs.Model.World.{World, node_state, with_new_node}
+use Rattle.csi_world.proofs.Words.{◌≡◌, ℕ, ◌<◌, ◌≤◌, List, Bool, true, false, cond, Option, Some, None, IsTrue, refl}
+use Rattle.csi_world.proofs.Words.{sym, ◌∙◌, ap, inl, ⊎_elim, arith, Number, same_text, PluginThing, Exists, Attached}
+use Rattle.csi_world.proofs.Words.{Staged, Published, Kept, is_over, NodeState, joined_node, Item, issued_in}
+use Rattle.csi_world.proofs.Words.{last_number, World, node_state, with_new_node}
+use Rattle.csi_world.proofs.Lemmas.{or_cases, or_left, or_right, none-some}
 use Rattle.csi_world.proofs.WorldView.{over_at, node_view, view_of}
 use Rattle.csi_world.proofs.GivenIds.{GivenId}
 use Rattle.csi_world.proofs.Lifetimes.{latest, is-over, over-earlier}

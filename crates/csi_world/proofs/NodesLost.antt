@@ -1,19 +1,10 @@
 -- What is so of a world after a node was lost.
-use Rattle.std.proofs.Common.{◌≡◌, ◌⊎◌, ℕ, ◌<◌, List, [], ◌∷◌, Bool, true, false, cond, Option, Some, None, find, IsTrue, refl, sym, ◌∙◌, ap, subst, inl, inr, ⊎_elim}
-use Rattle.std.proofs.lemmas.Bool.{or_cases, or_left, or_right}
-use Rattle.std.proofs.lemmas.Option.{none-some}
-use Rattle.csi_types.specs.declared.number.Number.{Number}
-use Rattle.csi_types.specs.declared.status.Status.{Status}
-use Rattle.csi_types.specs.Model.Same.{same_text}
-use Rattle.csi_types.specs.Public.PluginThing.{PluginThing, Exists, Attached, Staged, Published}
-use Rattle.csi_types.proofs.Equality.{same_text-tells}
-use Rattle.csi_fence.specs.Model.Fence.{is_over}
-use Rattle.csi_lists.specs.Model.Members.{IsAmong}
-use Rattle.csi_node.specs.Model.State.{NodeState}
-use Rattle.csi_orchestrator.specs.Model.Thing.{Issued}
-use Rattle.csi_orchestrator.specs.Model.History.{Item, Accepted, Lost}
-use Rattle.csi_orchestrator.specs.Model.Readings.{since, issued_in, last_number}
-use Rattle.csi_world.specs.Model.World.{World, node_state, without_node, with_history}
+use Rattle.csi_world.proofs.Words.{◌≡◌, ◌⊎◌, ℕ, ◌<◌, List, [], ◌∷◌, Bool, true, false, cond, Option, Some, None, find}
+use Rattle.csi_world.proofs.Words.{IsTrue, refl, sym, ◌∙◌, ap, subst, inl, inr, ⊎_elim, Number, Status, same_text}
+use Rattle.csi_world.proofs.Words.{PluginThing, Exists, Attached, Staged, Published, is_over, IsAmong, NodeState}
+use Rattle.csi_world.proofs.Words.{Issued, Item, Accepted, Lost, since, issued_in, last_number, World, node_state}
+use Rattle.csi_world.proofs.Words.{without_node, with_history}
+use Rattle.csi_world.proofs.Lemmas.{or_cases, or_left, or_right, none-some, same_text-tells}
 use Rattle.csi_world.proofs.WorldView.{over_at, node_view, view_of}
 use Rattle.csi_world.proofs.GivenIds.{GivenId}
 use Rattle.csi_world.proofs.CallThings.{is_of}

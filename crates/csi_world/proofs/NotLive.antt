@@ -1,30 +1,13 @@
 -- What is so of a name that has an id and no live volume, since that was deleted: its id was heard, so that no CreateVolume is sent for it
 -- until the name is forgotten, and those that were sent are spent. So no volume of that name is made before that; and no call that was sent
 -- before a name was forgotten makes or deletes a volume of it after that.
-use Rattle.std.proofs.Common.{◌≡◌, ◌⊎◌, ℕ, List, ◌∷◌, Bool, true, false, Some, None, option_map, is_some, IsTrue, refl, sym, ◌∙◌, ap, subst, inl, inr, ⊎_elim}
-use Rattle.std.proofs.lemmas.Bool.{false≢true}
-use Rattle.std.proofs.lemmas.Option.{none-some}
-use Rattle.csi_types.specs.declared.call.Call.{Call}
+use Rattle.csi_world.proofs.Words.{◌≡◌, ◌⊎◌, ℕ, List, ◌∷◌, Bool, true, false, Some, None, option_map, is_some, IsTrue}
+use Rattle.csi_world.proofs.Words.{refl, sym, ◌∙◌, ap, subst, inl, inr, ⊎_elim, Call, Kind, Party, Controller, Node}
+use Rattle.csi_world.proofs.Words.{Reply, kind_of, PluginView, IsClosed, Frame, PluginThing, Exists, ThingForm, HasId}
+use Rattle.csi_world.proofs.Words.{asked, has_id_by_rule, IsAmong, Issued, is_doing, Item, Sent, History, issued_in}
+use Rattle.csi_world.proofs.Words.{IsGuarded, Number, Volume, ControllerState, volume_with_id}
+use Rattle.csi_world.proofs.Lemmas.{false≢true, none-some, same_text-tells, none-from_map}
 use Rattle.csi_types.specs.declared.call.Call.TheVariants as calls
-use Rattle.csi_types.specs.declared.call.Kind.{Kind}
-use Rattle.csi_types.specs.declared.call.Party.{Party}
-use Rattle.csi_types.specs.declared.call.Party.TheVariants.{Controller, Node}
-use Rattle.csi_types.specs.declared.reply.Reply.{Reply}
-use Rattle.csi_types.specs.Model.Call.{kind_of}
-use Rattle.csi_fence.specs.Public.Delivery.{PluginView, IsClosed}
-use Rattle.csi_types.specs.Model.Frame.{Frame}
-use Rattle.csi_types.specs.Public.PluginThing.{PluginThing, Exists, ThingForm, HasId, asked}
-use Rattle.csi_types.specs.Public.Reply.{has_id_by_rule}
-use Rattle.csi_types.proofs.Equality.{same_text-tells}
-use Rattle.csi_lists.specs.Model.Members.{IsAmong}
-use Rattle.csi_orchestrator.specs.Model.Thing.{Issued, is_doing}
-use Rattle.csi_orchestrator.specs.Model.History.{Item, Sent, History}
-use Rattle.csi_orchestrator.specs.Model.Readings.{issued_in}
-use Rattle.csi_orchestrator.specs.Public.Guards.{IsGuarded}
-use Rattle.csi_types.specs.declared.number.Number.{Number}
-use Rattle.csi_lists.proofs.Options.{none-from_map}
-use Rattle.csi_controller.specs.Model.State.{Volume, ControllerState}
-use Rattle.csi_controller.specs.Public.State.{volume_with_id}
 use Rattle.csi_controller.specs.Public.View as controllers
 use Rattle.csi_world.proofs.GivenIds.{GivenId, HasNow, AreOf, stays-gone}
 use Rattle.csi_world.proofs.CallThings.{IsOwnOld, plugin_thing_at, is_plugin_thing, is_of, is_making}

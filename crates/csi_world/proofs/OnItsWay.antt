@@ -1,17 +1,11 @@
 -- A volume on its way to rest, delivery by delivery.
-use Rattle.std.proofs.Common.{◌≡◌, ℕ, zero, suc, ◌+◌, ◌≤◌, ◌<◌, List, length, true, false, cond, not, ◌||◌, is_some, refl, sym, ◌∙◌, ap, subst, arith}
-use Rattle.csi_types.specs.declared.event.Event.TheVariants.{Timeout}
-use Rattle.csi_orchestrator.specs.Model.History.{History}
-use Rattle.csi_orchestrator.specs.Model.Readings.{goal_of, has_row}
-use Rattle.csi_orchestrator.specs.Model.Shown.{Shows}
-use Rattle.csi_world.specs.declared.outcomes.Outcome.{Outcome}
+use Rattle.csi_world.proofs.Words.{◌≡◌, ℕ, zero, suc, ◌+◌, ◌≤◌, ◌<◌, List, length, true, false, cond, not, ◌||◌}
+use Rattle.csi_world.proofs.Words.{is_some, refl, sym, ◌∙◌, ap, subst, arith, Timeout, History, goal_of, has_row, Shows}
+use Rattle.csi_world.proofs.Words.{Outcome, World, OnItsWay, frame_numbered, delivered, delivered_on, brought_on}
+use Rattle.csi_world.proofs.Words.{settling_way, settled_by, occurs, WorldParts, ShowsWorld, CameOn, IsWorldAfter}
+use Rattle.csi_world.proofs.Words.{IsSoundWorld}
 use Rattle.csi_world.specs.declared.outcomes.Outcome.TheVariants.{Settled, NotSettled}
-use Rattle.csi_world.specs.Model.World.{World}
-use Rattle.csi_world.specs.Model.After.{OnItsWay, frame_numbered, delivered, is_at_rest, delivered_on, brought_on, settling_way, settled_by, occurs}
-use Rattle.csi_world.specs.Model.Simulated.{WorldParts, ShowsWorld}
-use Rattle.csi_world.specs.Private.Settling.{CameOn}
-use Rattle.csi_world.specs.Private.Simulating.{IsWorldAfter}
-use Rattle.csi_world.specs.Public.Simulating.{IsSoundWorld}
+use Rattle.csi_world.specs.Model.After.{is_at_rest}
 use Rattle.csi_world.proofs.SettledEvents.{ends_at, rest-wanted, wanted-row}
 
 -- so far it is this world, after so many events, from which so many deliveries more may be made

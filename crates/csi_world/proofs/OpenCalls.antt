@@ -1,42 +1,24 @@
 -- What a plugin answers an open call: what it keeps for its volume is that call, or one before it, and it heard of no later session. So the fence lets the
 -- call through, or gives what is kept.
-use Rattle.std.proofs.Common.{◌≡◌, ◌⊎◌, ℕ, ◌≤◌, List, [], ◌∷◌, Bool, true, false, cond, Option, Some, None, option_map, is_some, refl, sym, ◌∙◌, ap, subst, inl, inr, ⊎_elim, ◌==◌}
-use Rattle.std.proofs.lemmas.Bool.{eqb-true, eq-eqb, false≢true, true≢false, le-ltb}
-use Rattle.std.proofs.lemmas.Option.{none-some, same_Some}
-use Rattle.csi_types.specs.declared.number.Number.{Number}
-use Rattle.csi_types.specs.declared.call.Call.{Call}
+use Rattle.csi_world.proofs.Words.{◌≡◌, ◌⊎◌, ℕ, ◌≤◌, List, [], ◌∷◌, Bool, true, false, cond, Option, Some, None}
+use Rattle.csi_world.proofs.Words.{option_map, is_some, refl, sym, ◌∙◌, ap, subst, inl, inr, ⊎_elim, ◌==◌, Number, Call}
+use Rattle.csi_world.proofs.Words.{Party, Controller, Node, Body, Reply, kind_of, Config, Frame, IsBefore, reply_frame}
+use Rattle.csi_world.proofs.Words.{same_text, same_number, same_party, IsAmong, EachTwo, Kept, is_spent, is_over}
+use Rattle.csi_world.proofs.Words.{begins, Fenced, Machine, in_session, answered_only, judged, fenced_call, answered_in}
+use Rattle.csi_world.proofs.Words.{unanswered, fenced_parts, Volume, ControllerState, is_row_for, row_for}
+use Rattle.csi_world.proofs.Words.{volume_with_id, NodeState, AnsweredVolume, volume_of, row_of_volume, row_with_id}
+use Rattle.csi_world.proofs.Words.{staged_of, Issued, Item, Started, Sent, Accepted, Closed, issued_in, open_in}
+use Rattle.csi_world.proofs.Words.{is_aborted}
+use Rattle.csi_world.proofs.Lemmas.{eqb-true, eq-eqb, false≢true, true≢false, le-ltb, none-some, same_Some}
+use Rattle.csi_world.proofs.Lemmas.{same_text-tells, same_number-tells, each_of, among-filter, among-find, find-passes}
+use Rattle.csi_world.proofs.Lemmas.{Judgement, was_over, was_fresh, was_repeated, was_stale, was_judged, IsOrderly}
+use Rattle.csi_world.proofs.Lemmas.{is_with_id, unless-some}
 use Rattle.csi_types.specs.declared.call.Call.TheVariants as calls
-use Rattle.csi_types.specs.declared.call.Party.{Party}
-use Rattle.csi_types.specs.declared.call.Party.TheVariants.{Controller, Node}
-use Rattle.csi_types.specs.declared.frame.Body.{Body}
 use Rattle.csi_types.specs.declared.frame.Body.TheVariants as bodies
-use Rattle.csi_types.specs.declared.reply.Reply.{Reply}
-use Rattle.csi_types.specs.Model.Call.{kind_of}
-use Rattle.csi_types.specs.Model.Config.{Config}
-use Rattle.csi_types.specs.Model.Frame.{Frame}
-use Rattle.csi_types.specs.Model.Number.{IsBefore}
-use Rattle.csi_types.specs.Model.Replies.{reply_frame}
-use Rattle.csi_types.specs.Model.Same.{same_text, same_number, same_party}
-use Rattle.csi_types.proofs.Equality.{same_text-tells, same_number-tells}
-use Rattle.csi_lists.specs.Model.Members.{IsAmong, EachTwo}
-use Rattle.csi_lists.proofs.Members.{each_of, among-filter, among-find}
-use Rattle.csi_lists.proofs.Searches.{find-passes}
 use Rattle.csi_fence.specs.declared.fence.Verdict.TheVariants.{Stale, Repeated, Fresh}
-use Rattle.csi_fence.specs.Model.Fence.{Kept, is_spent, is_over, begins}
-use Rattle.csi_fence.proofs.Judged.{Judgement, was_over, was_fresh, was_repeated, was_stale, was_judged}
-use Rattle.csi_fence.specs.Model.Fenced.{Fenced, Machine, in_session, answered_only, judged, fenced_call, answered_in, unanswered, fenced_parts}
-use Rattle.csi_controller.specs.Model.State.{Volume, ControllerState, is_row_for, row_for}
 use Rattle.csi_controller.specs.Model.Fenced as controllers
-use Rattle.csi_controller.specs.Public.State.{volume_with_id}
-use Rattle.csi_controller.proofs.OrderlyStates.{IsOrderly, is_with_id}
-use Rattle.csi_node.specs.Model.State.{NodeState, AnsweredVolume, volume_of, row_of_volume, row_with_id, staged_of}
 use Rattle.csi_node.specs.Model.Table as node_table
 use Rattle.csi_node.specs.Model.Fenced as nodes
-use Rattle.csi_orchestrator.specs.Model.Thing.{Issued}
-use Rattle.csi_orchestrator.specs.Model.History.{Item, Started, Lost, Forgotten, Sent, Accepted, Closed, Noted}
-use Rattle.csi_orchestrator.specs.Model.Readings.{issued_in, open_in}
-use Rattle.csi_orchestrator.specs.Public.Stale.{is_aborted}
-use Rattle.csi_orchestrator.proofs.Numbers.{unless-some}
 use Rattle.csi_world.proofs.CallThings.{IsOwn, ComesAfter}
 use Rattle.csi_world.proofs.GivenIds.{GivenId, HasName, AreGiven, AreOf, id-named}
 use Rattle.csi_world.proofs.NamedCalls.{own}
@@ -64,9 +46,7 @@ open-latest name (Sent issued ∷ older) call other is among named apart = by (s
     by false differs now (inr there) rest = rest now there named apart.1
 open-latest name (Accepted number status id ∷ older) call other is among named apart = open-latest name older call other (unless-some number (open_in name older) call is).0 among named apart
 open-latest name (Closed number ∷ older) call other is among named apart = open-latest name older call other (unless-some number (open_in name older) call is).0 among named apart
-open-latest name (Noted noted goal ∷ older) call other is among named apart = open-latest name older call other is among named apart
-open-latest name (Lost node ∷ older) call other is among named apart = open-latest name older call other is among named apart
-open-latest name (Forgotten gone ∷ older) call other is among named apart = open-latest name older call other is among named apart
+open-latest name (item ∷ older) call other is among named apart = open-latest name older call other is among named apart
 
 -- ---- what the fence answers to an open call
 

@@ -1,7 +1,5 @@
 -- The plugin that has a thing.
-use Rattle.csi_types.specs.declared.call.Party.{Party}
-use Rattle.csi_types.specs.declared.call.Party.TheVariants.{Controller, Node}
-use Rattle.csi_types.specs.Public.PluginThing.{PluginThing, Exists, Attached, Staged, Published}
+use Rattle.csi_world.proofs.Words.{Party, Controller, Node, PluginThing, Exists, Attached, Staged, Published}
 
 -- the plugin that has a thing
 abbrev pub party_of : PluginThing → Party

@@ -1,36 +1,21 @@
 -- What the plugins' own contracts keep, in every world that their parts show; and what is staged there is attached, where it is
 -- so of what is listed.
-use Rattle.std.proofs.Common.{◌≡◌, ◌↔◌, ℕ, List, [], ◌∷◌, map, Bool, true, Option, Some, None, IsSome, is_some, IsTrue, option_map, find, ◌==◌, ◌&&◌, refl, sym, ◌∙◌, ap, subst, inl, inr}
-use Rattle.std.specs.List.{AllByRecursion, list_all}
-use Rattle.std.proofs.lemmas.Bool.{and_parts, and_from, eqb-true, eq-eqb, false≢true, true_from_ne_false}
-use Rattle.csi_types.specs.declared.capability.Capability.{Capability}
-use Rattle.csi_types.specs.declared.holding.Holding.{Holding}
-use Rattle.csi_types.specs.Model.Holding.{AreApart}
-use Rattle.csi_lists.specs.Model.Members.{IsAmong, EachTwo}
-use Rattle.csi_lists.proofs.Members.{each_of, among-find, among-filter, in_filter, among-map, in-map, among-by_key}
-use Rattle.csi_lists.proofs.Searches.{find-and, find-passes, find-of_map}
-use Rattle.csi_lists.proofs.Tests.{all-then, then-all, any-then, then-any}
-use Rattle.csi_lists.proofs.Pairs.{two-by_key}
-use Rattle.csi_types.specs.Model.Same.{same_text, same_capability}
-use Rattle.csi_types.proofs.Equality.{same_text-tells, same_capability-tells}
-use Rattle.csi_controller.specs.declared.row.ControllerRow.{ControllerRow}
-use Rattle.csi_controller.specs.declared.row.NodeHolding.{NodeHolding}
+use Rattle.csi_world.proofs.Words.{◌≡◌, ◌↔◌, ℕ, List, [], ◌∷◌, map, Bool, true, Option, Some, None, IsSome, is_some}
+use Rattle.csi_world.proofs.Words.{IsTrue, option_map, find, ◌==◌, ◌&&◌, refl, sym, ◌∙◌, ap, subst, inl, inr}
+use Rattle.csi_world.proofs.Words.{AllByRecursion, list_all, Capability, Holding, AreApart, IsAmong, EachTwo, same_text}
+use Rattle.csi_world.proofs.Words.{same_capability, ControllerRow, NodeHolding, ControllerParts, volume_of_row}
+use Rattle.csi_world.proofs.Words.{holdings_in, Volume, live_volume, NodeParts, IsPublishedRight, StagedVolume}
+use Rattle.csi_world.proofs.Words.{staged_shown, NodeLists, NodeAt, World, IsExclusive, IsAttachedAs}
+use Rattle.csi_world.proofs.Words.{IsStagedWhereAttached, IsAttachedWhileLive, AreNodesShown, ArePlugins, Lists}
+use Rattle.csi_world.proofs.Words.{IsListed, IsPublishing, ArePluginsSafe, is_held_as, is_row_held}
+use Rattle.csi_world.proofs.Words.{controller_row_with_id, is_staged_right, is_node_attached}
+use Rattle.csi_world.proofs.Lemmas.{and_parts, and_from, eqb-true, eq-eqb, false≢true, true_from_ne_false, each_of}
+use Rattle.csi_world.proofs.Lemmas.{among-find, among-filter, in_filter, among-map, in-map, among-by_key, find-and}
+use Rattle.csi_world.proofs.Lemmas.{find-passes, find-of_map, all-then, then-all, any-then, then-any, two-by_key}
+use Rattle.csi_world.proofs.Lemmas.{same_text-tells, same_capability-tells}
 use Rattle.csi_controller.specs.Model.Core.{Shows as ControllerShows}
-use Rattle.csi_controller.specs.Model.Core.{ControllerParts}
 use Rattle.csi_controller.specs.Public.Exclusive.{IsRowExclusive}
-use Rattle.csi_controller.specs.Model.Shown.{volume_of_row, holdings_in}
-use Rattle.csi_controller.specs.Model.State.{Volume, live_volume}
-use Rattle.csi_node.specs.Model.Record.{NodeParts}
-use Rattle.csi_node.specs.Public.Safe.{IsPublishedRight}
-use Rattle.csi_node.specs.Model.State.{StagedVolume}
 use Rattle.csi_node.specs.declared.entries.Staged.{Staged as StagedEntry}
-use Rattle.csi_node.specs.Public.Views.{staged_shown}
-use Rattle.csi_world.specs.declared.auditing.lists.NodeLists.{NodeLists}
-use Rattle.csi_world.specs.Model.World.{NodeAt, World}
-use Rattle.csi_world.specs.Model.Safe.{IsExclusive, IsAttachedAs, IsStagedWhereAttached, IsAttachedWhileLive}
-use Rattle.csi_world.specs.Model.Simulated.{AreNodesShown}
-use Rattle.csi_world.specs.Public.Audited.{ArePlugins}
-use Rattle.csi_world.specs.Private.Listed.{Lists, IsListed, IsPublishing, ArePluginsSafe, is_held_as, is_row_held, controller_row_with_id, is_staged_right, is_node_attached}
 use Rattle.csi_world.proofs.PluginSafety.{staged_there}
 use Rattle.csi_world.proofs.ListedNodes.{listed-of, node-of}
 

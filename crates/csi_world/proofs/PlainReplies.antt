@@ -1,22 +1,15 @@
 -- The reply of a call that is carried out is none of a late call.
-use Rattle.std.proofs.Common.{◌≡◌, List, [], ◌∷◌, not, Bool, true, false, cond, Option, Some, None, find, refl}
-use Rattle.std.specs.Prelude.{◌||◌, ◌&&◌, ◌^◌, nat_le, nat_lt, length, codes}
-use Rattle.csi_types.specs.declared.call.Call.{Call}
+use Rattle.csi_world.proofs.Words.{◌≡◌, List, [], ◌∷◌, not, Bool, true, false, cond, Option, Some, None, find, refl}
+use Rattle.csi_world.proofs.Words.{◌||◌, ◌&&◌, ◌^◌, nat_le, nat_lt, length, codes, Call, Capability, Holding, Status}
+use Rattle.csi_world.proofs.Words.{is_bad_range, is_empty_range, capacity_wanted, Config, has_node, same_holding}
+use Rattle.csi_world.proofs.Words.{is_compatible, same_flag, same_capability, has_capability, Volume, ControllerState}
+use Rattle.csi_world.proofs.Words.{volume_named, live_volume, holdings_of, holding_at, NodeState, PublishedVolume}
+use Rattle.csi_world.proofs.Words.{StagedVolume, staged_of, published_of, published_at, is_aborted}
 use Rattle.csi_types.specs.declared.call.Call.TheVariants as calls
-use Rattle.csi_types.specs.declared.capability.Capability.{Capability}
-use Rattle.csi_types.specs.declared.holding.Holding.{Holding}
-use Rattle.csi_types.specs.declared.status.Status.{Status}
 use Rattle.csi_types.specs.declared.status.Status.TheVariants as statuses
-use Rattle.csi_types.specs.Model.Capacity.{is_bad_range, is_empty_range, capacity_wanted}
-use Rattle.csi_types.specs.Model.Config.{Config, has_node}
-use Rattle.csi_types.specs.Model.Holding.{same_holding, is_compatible}
-use Rattle.csi_types.specs.Model.Same.{same_flag, same_capability, has_capability}
 use Rattle.csi_types.specs.Model.Sharing.{allows_one_target}
-use Rattle.csi_controller.specs.Model.State.{Volume, ControllerState, volume_named, live_volume, holdings_of, holding_at}
 use Rattle.csi_controller.specs.Model.Table as controller_table
-use Rattle.csi_node.specs.Model.State.{NodeState, PublishedVolume, StagedVolume, staged_of, published_of, published_at}
 use Rattle.csi_node.specs.Model.Table as node_table
-use Rattle.csi_orchestrator.specs.Public.Stale.{is_aborted}
 
 -- ---- tables
 
@@ -81,10 +74,7 @@ controller-plain config state (calls.ControllerUnpublishVolume id node) = by (ho
     by : (o : Option Holding) → ControllerPlain (controller_table.unpublish id node o)
     by None = refl
     by (Some held) = refl
-controller-plain config state (calls.NodeStageVolume id capability) = refl
-controller-plain config state (calls.NodeUnstageVolume id) = refl
-controller-plain config state (calls.NodePublishVolume id target capability readonly) = refl
-controller-plain config state (calls.NodeUnpublishVolume id target) = refl
+controller-plain config state call = refl
 
 -- an outcome's of a node
 abbrev pub NodePlain : node_table.Outcome → Type 0
@@ -125,10 +115,7 @@ lifecycle-plain state (calls.NodeUnpublishVolume id target) = by (published_at i
     by : (o : Option PublishedVolume) → NodePlain (node_table.unpublish id target o)
     by None = refl
     by (Some there) = refl
-lifecycle-plain state (calls.CreateVolume name required limit capabilities) = refl
-lifecycle-plain state (calls.DeleteVolume id) = refl
-lifecycle-plain state (calls.ControllerPublishVolume id node capability readonly) = refl
-lifecycle-plain state (calls.ControllerUnpublishVolume id node) = refl
+lifecycle-plain state call = refl
 
 pub node-plain : (state : NodeState) (call : Call) → NodePlain (node_table.node_row state call)
 node-plain state call = either NodePlain (node_table.has_no_room state call) _ _ refl (lifecycle-plain state call)

@@ -1,16 +1,8 @@
 -- What the plugins keep by themselves, in every world of which they are in states that frames lead to.
-use Rattle.std.proofs.Common.{◌≡◌, ℕ, true, Some, find, ◌==◌, sym, subst}
-use Rattle.std.proofs.lemmas.Bool.{eqb-true}
-use Rattle.csi_types.specs.declared.capability.Capability.{Capability}
-use Rattle.csi_lists.specs.Model.Members.{IsAmong}
-use Rattle.csi_lists.proofs.Members.{each_of, among-find}
-use Rattle.csi_lists.proofs.Options.{some-from_map}
-use Rattle.csi_lists.proofs.Searches.{find-passes}
-use Rattle.csi_controller.specs.Public.Safe.{IsExclusiveState, ControllerSafetyLaw}
-use Rattle.csi_node.specs.Public.Safe.{IsPublishedRight, NodeSafetyLaw}
-use Rattle.csi_node.specs.Model.State.{NodeState, StagedVolume, staged_of}
-use Rattle.csi_world.specs.Model.World.{World}
-use Rattle.csi_world.specs.Model.Safe.{IsPublishedWhereStaged}
+use Rattle.csi_world.proofs.Words.{◌≡◌, ℕ, true, Some, find, ◌==◌, sym, subst, Capability, IsAmong, IsExclusiveState}
+use Rattle.csi_world.proofs.Words.{ControllerSafetyLaw, IsPublishedRight, NodeSafetyLaw, NodeState, StagedVolume}
+use Rattle.csi_world.proofs.Words.{staged_of, World, IsPublishedWhereStaged}
+use Rattle.csi_world.proofs.Lemmas.{eqb-true, each_of, among-find, some-from_map, find-passes}
 use Rattle.csi_world.proofs.PluginsReached.{IsReached, IsNodeOfFrames}
 
 -- any two holdings of one volume are apart, and what is attached wasn't deleted

@@ -1,30 +1,18 @@
 -- The plugins of a world are in states that frames lead to, and nodes of one id are alike.
-use Rattle.std.proofs.Common.{◌≡◌, ◌⊎◌, ℕ, List, [], ◌∷◌, ◌++◌, map, Bool, true, false, cond, not, Option, Some, None, option_map, find, refl, sym, ◌∙◌, ap, inl, inr}
-use Rattle.std.proofs.lemmas.Bool.{false≢true}
-use Rattle.std.specs.List.{AllByRecursion}
-use Rattle.std.proofs.lemmas.Option.{none-some, same_Some}
-use Rattle.csi_types.specs.declared.call.Party.{Party}
-use Rattle.csi_types.specs.declared.call.Party.TheVariants.{Controller, Node}
-use Rattle.csi_types.specs.Model.Config.{Config}
-use Rattle.csi_types.specs.Model.Frame.{Frame}
-use Rattle.csi_lists.specs.Model.Members.{IsAmong}
-use Rattle.csi_lists.proofs.Members.{each_of, among-either, among-find, among-kept, among-map, some-found}
-use Rattle.csi_lists.proofs.Each.{each-append_one, each-filter}
-use Rattle.csi_lists.proofs.Options.{none-from_map, some-from_map}
-use Rattle.csi_lists.proofs.Searches.{find-filter, find-filter_not, find-map, find-passes}
-use Rattle.csi_lists.proofs.Maps.{map-same}
-use Rattle.csi_types.specs.Model.Same.{same_text}
-use Rattle.csi_types.proofs.Equality.{same_text-tells}
-use Rattle.csi_controller.specs.Model.State.{ControllerState, empty_controller}
+use Rattle.csi_world.proofs.Words.{◌≡◌, ◌⊎◌, ℕ, List, [], ◌∷◌, ◌++◌, map, Bool, true, false, cond, not, Option, Some}
+use Rattle.csi_world.proofs.Words.{None, option_map, find, refl, sym, ◌∙◌, ap, inl, inr, AllByRecursion, Party}
+use Rattle.csi_world.proofs.Words.{Controller, Node, Config, Frame, IsAmong, same_text, ControllerState}
+use Rattle.csi_world.proofs.Words.{empty_controller, NodeState, joined_node, after_frames, History, NodeAt, World}
+use Rattle.csi_world.proofs.Words.{new_node, node_id, empty_world, node_state, with_state, with_node, with_new_node}
+use Rattle.csi_world.proofs.Words.{without_node, with_frame, answered_by_node, answered_by, answered_by_plugin}
+use Rattle.csi_world.proofs.Lemmas.{false≢true, none-some, same_Some, each_of, among-either, among-find, among-kept}
+use Rattle.csi_world.proofs.Lemmas.{among-map, some-found, each-append_one, each-filter, none-from_map, some-from_map}
+use Rattle.csi_world.proofs.Lemmas.{find-filter, find-filter_not, find-map, find-passes, map-same, same_text-tells}
+use Rattle.csi_world.proofs.Lemmas.{find-behind}
 use Rattle.csi_controller.specs.Model.Fenced as controller
 use Rattle.csi_controller.specs.Public.Fenced.{ConfiguredFrame, after_configured}
-use Rattle.csi_node.specs.Model.State.{NodeState, joined_node}
 use Rattle.csi_node.specs.Model.Fenced as node
-use Rattle.csi_node.specs.Public.Fenced.{after_frames}
-use Rattle.csi_orchestrator.specs.Model.History.{History}
-use Rattle.csi_world.specs.Model.World.{NodeAt, World, new_node, node_id, empty_world, node_state, with_state, with_node, with_new_node, without_node, with_frame}
-use Rattle.csi_world.specs.Model.Step.{answered_by_node, answered_by, answered_by_plugin}
-use Rattle.csi_world.proofs.Lifetimes.{find-first_part, find-in_first}
+use Rattle.csi_world.proofs.Lifetimes.{find-in_first}
 
 -- a controller's state to which frames lead, each under the configuration of its time
 abbrev pub IsOfFrames : ControllerState → Type 0
@@ -185,7 +173,7 @@ joined-other session id other world state h =
 pub joined-none : (session : ℕ) (id other : List ℕ) (world : World) → node_state other world ≡ None → node_state other (with_new_node session id world) ≡ cond (same_text id other) (Some (joined_node session)) None
 joined-none session id other world none =
     let p : NodeAt → Bool = λ n. same_text n.id other in
-    ap (option_map (λ (n : NodeAt). n.state)) (find-first_part p world.nodes (new_node session id ∷ []) (none-from_map (λ (n : NodeAt). n.state) (find p world.nodes) none)) ∙ by (same_text id other)
+    ap (option_map (λ (n : NodeAt). n.state)) (find-behind p world.nodes (new_node session id ∷ []) (none-from_map (λ (n : NodeAt). n.state) (find p world.nodes) none)) ∙ by (same_text id other)
   where
     by : (b : Bool) → option_map (λ (n : NodeAt). n.state) (cond b (Some (new_node session id)) None) ≡ cond b (Some (joined_node session)) None
     by true = refl

@@ -1,31 +1,17 @@
 -- Plugins whose sessions were raised are in states that frames lead to: a call that does nothing but begin the session would do the same.
-use Rattle.std.proofs.Common.{◌≡◌, ℕ, ◌<◌, ◌≤◌, List, [], ◌∷◌, ◌++◌, cond, None, option_map, find, refl, sym, ◌∙◌, ap, subst, ◌==◌, arith}
-use Rattle.std.proofs.lemmas.Bool.{lt-ltb, le-ltb}
-use Rattle.csi_lists.proofs.Maps.{map-same}
-use Rattle.csi_lists.proofs.Members.{none_passes}
-use Rattle.csi_lists.proofs.Options.{none-where}
-use Rattle.csi_lists.proofs.Searches.{find-none_in_filter}
+use Rattle.csi_world.proofs.Words.{◌≡◌, ℕ, ◌<◌, ◌≤◌, List, [], ◌∷◌, ◌++◌, cond, None, option_map, find, refl, sym, ◌∙◌}
+use Rattle.csi_world.proofs.Words.{ap, subst, ◌==◌, arith, Controller, Node, Number, Unimplemented, kind_of, Config}
+use Rattle.csi_world.proofs.Words.{Frame, plain_reply, stale_reply, call_frame, Kept, Fenced, answered_only}
+use Rattle.csi_world.proofs.Words.{answered_in, in_session, fenced_call, unanswered, Volume, ControllerState}
+use Rattle.csi_world.proofs.Words.{volume_with_id, NodeState, joined_node, after_frames}
+use Rattle.csi_world.proofs.Lemmas.{lt-ltb, le-ltb, map-same, none_passes, none-where, find-none_in_filter}
+use Rattle.csi_world.proofs.Lemmas.{same_text-tells, Carried, no_room, has_room, was_carried}
 use Rattle.csi_types.specs.declared.call.Call.TheVariants as calls
-use Rattle.csi_types.specs.declared.call.Party.TheVariants.{Controller, Node}
-use Rattle.csi_types.specs.declared.number.Number.{Number}
-use Rattle.csi_types.specs.declared.status.Status.TheVariants.{Unimplemented}
-use Rattle.csi_types.specs.Model.Call.{kind_of}
-use Rattle.csi_types.specs.Model.Config.{Config}
-use Rattle.csi_types.specs.Model.Frame.{Frame}
-use Rattle.csi_types.specs.Model.Replies.{plain_reply, stale_reply, call_frame}
-use Rattle.csi_types.proofs.Equality.{same_text-tells}
-use Rattle.csi_fence.specs.Model.Fence.{Kept}
-use Rattle.csi_fence.specs.Model.Fenced.{Fenced, answered_only, answered_in, in_session, fenced_call, unanswered}
-use Rattle.csi_controller.specs.Model.State.{Volume, ControllerState}
-use Rattle.csi_controller.specs.Public.State.{volume_with_id}
 use Rattle.csi_controller.specs.Public.View as controllers
 use Rattle.csi_controller.specs.Model.Fenced as controller
 use Rattle.csi_controller.specs.Public.Raised as controller_raised
-use Rattle.csi_node.specs.Model.State.{NodeState, joined_node}
 use Rattle.csi_node.specs.Model.Fenced as node
-use Rattle.csi_node.specs.Public.Fenced.{after_frames}
 use Rattle.csi_node.specs.Public.Raised as node_raised
-use Rattle.csi_node.proofs.CarriedOut.{Carried, no_room, has_room, was_carried}
 use Rattle.csi_world.proofs.PluginsReached.{IsOfFrames, controller-next, node-more}
 
 -- the number of the call that begins it

@@ -1,33 +1,21 @@
 -- What is so of a world after one plugin's session was raised: all is there as it was, and no fewer numbers are spent.
-use Rattle.std.proofs.Common.{◌≡◌, ◌⊎◌, ℕ, ◌<◌, ◌≤◌, List, map, filter, Bool, true, false, cond, Option, Some, None, IsTrue, ◌==◌, refl, sym, ◌∙◌, ap, subst, inl, inr, ⊎_elim, arith}
-use Rattle.std.specs.Prelude.{nat_lt}
-use Rattle.std.proofs.lemmas.Bool.{lt-ltb, ltb-true, or_cases, or_left, or_right}
-use Rattle.std.proofs.lemmas.Option.{none-some}
-use Rattle.csi_lists.proofs.Members.{among-find, among-kept}
-use Rattle.csi_types.specs.declared.call.Party.{Party}
-use Rattle.csi_types.specs.declared.call.Party.TheVariants.{Controller, Node}
-use Rattle.csi_types.specs.declared.number.Number.{Number}
-use Rattle.csi_types.specs.Model.Same.{same_text}
-use Rattle.csi_types.specs.Public.PluginThing.{PluginThing, Exists, Attached, Staged, Published}
-use Rattle.csi_types.proofs.Equality.{same_text-tells}
-use Rattle.csi_fence.specs.Model.Fence.{Kept}
-use Rattle.csi_fence.specs.Public.Delivery.{PluginView}
+use Rattle.csi_world.proofs.Words.{◌≡◌, ◌⊎◌, ℕ, ◌<◌, ◌≤◌, List, map, filter, Bool, true, false, cond, Option, Some}
+use Rattle.csi_world.proofs.Words.{None, IsTrue, ◌==◌, refl, sym, ◌∙◌, ap, subst, inl, inr, ⊎_elim, arith, nat_lt}
+use Rattle.csi_world.proofs.Words.{Party, Controller, Node, Number, same_text, PluginThing, Exists, Attached, Staged}
+use Rattle.csi_world.proofs.Words.{Published, Kept, PluginView, Volume, ControllerState, NodeState, issued_in, NodeAt}
+use Rattle.csi_world.proofs.Words.{World, node_state, with_state, with_node}
+use Rattle.csi_world.proofs.Lemmas.{lt-ltb, ltb-true, or_cases, or_left, or_right, none-some, among-find, among-kept}
+use Rattle.csi_world.proofs.Lemmas.{same_text-tells, IsOrderly, came_orderly, AreCurrent, all_current}
 use Rattle.csi_fence.proofs.Begun.{HasBegun}
-use Rattle.csi_controller.specs.Model.State.{Volume, ControllerState}
 use Rattle.csi_controller.specs.Model.Fenced as controllers
 use Rattle.csi_controller.specs.Public.View as controller_views
 use Rattle.csi_controller.specs.Public.View.{AreNamed, KeepsNames}
 use Rattle.csi_controller.proofs.BegunThings as controller_things
 use Rattle.csi_controller.proofs.Forgotten.{live_volume-begun}
-use Rattle.csi_controller.proofs.OrderlyStates.{IsOrderly, came_orderly}
 use Rattle.csi_controller.proofs.RememberedStates.{AreRecent, came_recent}
-use Rattle.csi_node.specs.Model.State.{NodeState}
 use Rattle.csi_node.specs.Model.Fenced as nodes
 use Rattle.csi_node.specs.Public.View as node_views
 use Rattle.csi_node.proofs.DeliveryLaw as node_things
-use Rattle.csi_node.proofs.SessionsLaw.{AreCurrent, all_current}
-use Rattle.csi_orchestrator.specs.Model.Readings.{issued_in}
-use Rattle.csi_world.specs.Model.World.{NodeAt, World, node_state, with_state, with_node}
 use Rattle.csi_world.specs.Public.Recovery.{node_raised, plugin_raised}
 use Rattle.csi_world.proofs.WorldView.{node_view, over_at, view_of}
 use Rattle.csi_world.proofs.GivenIds.{GivenId, AreOf, stays-forgotten, is_forgotten}

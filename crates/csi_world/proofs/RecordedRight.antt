@@ -1,23 +1,15 @@
 -- What is known of a thing is so.
-use Rattle.std.proofs.Common.{◌≡◌, ℕ, List, true, false, cond, Option, Some, None, option_map, find, is_some, refl, sym, ◌∙◌, ap, subst, ⊎_elim, ◌==◌}
-use Rattle.std.proofs.lemmas.Bool.{and_parts, eqb-true, false≢true}
-use Rattle.csi_types.specs.Model.Call.{kind_of}
-use Rattle.csi_types.specs.Public.PluginThing.{PluginThing, Exists, Attached, Staged, Published, ThingForm, StagedAs, PublishedAs}
-use Rattle.csi_lists.specs.Model.Members.{IsAmong}
-use Rattle.csi_lists.proofs.Members.{among-find}
-use Rattle.csi_lists.proofs.Searches.{find-passes}
-use Rattle.csi_lists.proofs.Options.{is_some-map, none-where}
-use Rattle.csi_types.specs.Model.Same.{same_text}
-use Rattle.csi_types.proofs.Equality.{same_text-tells}
-use Rattle.csi_controller.specs.Model.State.{Volume, volume_named, live_volume, holding_at}
+use Rattle.csi_world.proofs.Words.{◌≡◌, ℕ, List, true, false, cond, Option, Some, None, option_map, find, is_some, refl}
+use Rattle.csi_world.proofs.Words.{sym, ◌∙◌, ap, subst, ⊎_elim, ◌==◌, kind_of, PluginThing, Exists, Attached, Staged}
+use Rattle.csi_world.proofs.Words.{Published, ThingForm, StagedAs, PublishedAs, IsAmong, same_text, Volume}
+use Rattle.csi_world.proofs.Words.{volume_named, live_volume, holding_at, NodeState, StagedVolume, PublishedVolume}
+use Rattle.csi_world.proofs.Words.{staged_of, is_published_at, published_at, Thing, Yes, known, NodeAt, World}
+use Rattle.csi_world.proofs.Words.{node_state, IsStagedWhereAttached, IsPublishedWhereStaged, IsAttachedWhileLive}
+use Rattle.csi_world.proofs.Words.{holds_attached, holds_staged, holds_published, holds, IsRecordedRight}
+use Rattle.csi_world.proofs.Lemmas.{and_parts, eqb-true, false≢true, among-find, find-passes, is_some-map, none-where}
+use Rattle.csi_world.proofs.Lemmas.{same_text-tells}
 use Rattle.csi_controller.specs.Public.View as controllers
-use Rattle.csi_node.specs.Model.State.{NodeState, StagedVolume, PublishedVolume, staged_of, is_published_at, published_at}
-use Rattle.csi_orchestrator.specs.declared.thing.Thing.{Thing}
 use Rattle.csi_orchestrator.specs.declared.thing.Thing.TheVariants as things
-use Rattle.csi_orchestrator.specs.declared.thing.Known.TheVariants.{Yes}
-use Rattle.csi_orchestrator.specs.Model.Readings.{known}
-use Rattle.csi_world.specs.Model.World.{NodeAt, World, node_state}
-use Rattle.csi_world.specs.Model.Safe.{IsStagedWhereAttached, IsPublishedWhereStaged, IsAttachedWhileLive, holds_attached, holds_staged, holds_published, holds, IsRecordedRight}
 use Rattle.csi_world.proofs.WorldView.{node_view, over_at, view_of}
 use Rattle.csi_world.proofs.GivenIds.{GivenId, HasNow, HasName, AreGiven, AreOf, id-of_found, name-of_found, id-named}
 use Rattle.csi_world.proofs.CallThings.{IsThingBy, IsOne, Existence, Attachment, Staging, Publication}

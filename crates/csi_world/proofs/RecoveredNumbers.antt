@@ -1,8 +1,6 @@
 -- Numbers of one session, and of earlier ones.
-use Rattle.std.proofs.Common.{◌≡◌, ℕ, ◌<◌, ◌≤◌, ◌-◌, ap, inl, inr, arith}
-use Rattle.std.proofs.lemmas.Bool.Decides.{nat_tests}
-use Rattle.csi_types.specs.declared.number.Number.{Number}
-use Rattle.csi_types.specs.Model.Number.{IsBefore}
+use Rattle.csi_world.proofs.Words.{◌≡◌, ℕ, ◌<◌, ◌≤◌, ◌-◌, ap, inl, inr, arith, Number, IsBefore}
+use Rattle.csi_world.proofs.Lemmas.{nat_tests}
 use Rattle.csi_world.proofs.HeardNumbers.{IsUpTo}
 
 -- of two numbers of one session the later has the greater call

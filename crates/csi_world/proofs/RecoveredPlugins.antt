@@ -40,7 +40,7 @@ use Rattle.csi_orchestrator.specs.Model.History.{Started, History, with_items}
 use Rattle.csi_orchestrator.specs.Model.Readings.{issued_in, last_number}
 use Rattle.csi_orchestrator.specs.Model.WellFormed.{IsWellFormed}
 use Rattle.csi_orchestrator.specs.Model.Shown.{Shows}
-use Rattle.csi_orchestrator.proofs.FittedRows.{AreFitted, started-fitted}
+use Rattle.csi_orchestrator.proofs.AllTold.{AreTold, started-told}
 use Rattle.csi_recovery.specs.Public.Recovered.{GivenNode, given_state, recovered_rows, recovered, MayRecover}
 use Rattle.csi_world.specs.Model.World.{NodeAt, World, node_state}
 use Rattle.csi_world.specs.Model.Safe.{Safe}
@@ -147,7 +147,7 @@ module _ (r : Recovery) where
   start-earlier = earlier-one (last_number old.history).session session later
 
   -- a history of calls that tell what is there tells the rows
-  pub fitted : AreFitted (IsTrail controller gs start) (FitsSo controller gs) (trail-grows controller gs start) nodes (recovered_rows controller gs)
+  pub fitted : AreTold (IsTrail controller gs start) nodes start (recovered_rows controller gs)
   fitted = told-rows controller gs orderly plugin.exclusive start nodes may.rows
 
   -- it has no other calls
@@ -168,7 +168,7 @@ module _ (r : Recovery) where
 
   -- the orchestrator shows the history
   pub shows : Shows (recovered nodes session controller gs) history
-  shows = started-fitted nodes session fitted.last (recovered_rows controller gs) fitted.history may.rows.each fitted.agrees ends-earlier
+  shows = started-told nodes session fitted.last (recovered_rows controller gs) fitted.history may.rows.each fitted.agrees ends-earlier
 
   -- which is well-formed
   pub form : IsWellFormed history

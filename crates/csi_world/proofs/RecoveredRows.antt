@@ -26,7 +26,8 @@ use Rattle.csi_orchestrator.specs.Model.History.{History}
 use Rattle.csi_orchestrator.specs.Model.Shown.{NodeEntryShown, RowShown, mark_in}
 use Rattle.csi_orchestrator.specs.Public.Restored.{IsRestorable, AreRestorable}
 use Rattle.csi_orchestrator.specs.Public.Shown.{AreTargetsApart}
-use Rattle.csi_orchestrator.proofs.FittedRows.{FitsTarget, FitsEntry, FitsGoal, FitsRow, AreFitted, all-fitted}
+use Rattle.csi_orchestrator.proofs.FittedRows.{FitsTarget, FitsEntry, FitsGoal, FitsRow, all-fitted}
+use Rattle.csi_orchestrator.proofs.AllTold.{AreTold}
 use Rattle.csi_orchestrator.proofs.RowsOfRecord.{each-unmapped}
 use Rattle.csi_recovery.specs.Public.Recovered.{GivenNode, given_state, target_of, entry_by, entry_at, entry_of, is_maybe, undoing, tries_for, recovered_row, recovered_rows}
 use Rattle.csi_world.proofs.GivenIds.{live-named}
@@ -200,11 +201,8 @@ module _ (controller : ControllerState) (gs : List GivenNode) (orderly : IsOrder
             made = refl;
             id = v.id;
             has_id = refl;
-            quiet = refl;
             creates = ((refl, (v.id, is-volume)), sym (ap (λ o. option_map (λ (u : Volume). u.id) o) (found-live v there)));
             entries = all_of (FitsEntry P Fits v.name v.id) entries fits;
-            nodes = kept.sound.nodes;
-            targets = kept.sound.targets;
             goal = goal (find (λ (e : NodeEntryShown). is_maybe e.staged) entries) refl;
           }
         where
@@ -242,5 +240,5 @@ module _ (controller : ControllerState) (gs : List GivenNode) (orderly : IsOrder
         subst (FitsRow P Fits) (sym from.2) (fits-row from.0 from.1 nodes (subst (IsRestorable nodes) from.2 (each_of (IsRestorable nodes) (recovered_rows controller gs) row kept.each among))))
 
     -- so a history of such calls tells the rows
-    pub told-rows : (nodes : List (List ℕ)) → AreRestorable nodes (recovered_rows controller gs) → AreFitted P Fits (trail-grows controller gs start) nodes (recovered_rows controller gs)
-    told-rows nodes kept = all-fitted P Fits (trail-grows controller gs start) nodes start (recovered_rows controller gs) (first-trail controller gs start nodes) kept.names (fits-rows nodes kept)
+    pub told-rows : (nodes : List (List ℕ)) → AreRestorable nodes (recovered_rows controller gs) → AreTold P nodes start (recovered_rows controller gs)
+    told-rows nodes kept = all-fitted P Fits (trail-grows controller gs start) nodes start (recovered_rows controller gs) (first-trail controller gs start nodes) kept.names kept.each (fits-rows nodes kept)

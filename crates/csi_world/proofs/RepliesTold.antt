@@ -1,31 +1,16 @@
 -- What the replies that were sent tell of the things: the latest call of a thing, if it was answered OK, left the thing
 -- as it asks, and its number is spent. It is kept by a call that is sent, and by one that a plugin gets.
-use Rattle.std.proofs.Common.{◌≡◌, ◌⊎◌, ◌<◌, ◌≤◌, ℕ, List, [], ◌∷◌, ◌++◌, Bool, true, false, cond, Option, Some, None, is_some, IsTrue, refl, sym, ◌∙◌, ap, subst, inl, inr, ⊎_elim, arith}
-use Rattle.std.proofs.lemmas.Bool.{false≢true}
-use Rattle.std.proofs.lemmas.Option.{none-some, same_Some}
-use Rattle.csi_lists.proofs.Options.{some_is_not_none, is_some-map}
-use Rattle.csi_types.specs.declared.number.Number.{Number}
-use Rattle.csi_types.specs.declared.call.Call.{Call}
+use Rattle.csi_world.proofs.Words.{◌≡◌, ◌⊎◌, ◌<◌, ◌≤◌, ℕ, List, [], ◌∷◌, ◌++◌, Bool, true, false, cond, Option, Some}
+use Rattle.csi_world.proofs.Words.{None, is_some, IsTrue, refl, sym, ◌∙◌, ap, subst, inl, inr, ⊎_elim, arith, Number}
+use Rattle.csi_world.proofs.Words.{Call, Kind, Party, Reply, kind_of, PluginView, Delivery, Acts, Rests, Misses}
+use Rattle.csi_world.proofs.Words.{IsClosed, Kept, Frame, PluginThing, HasId, same_plugin_thing, asked, IsAmong}
+use Rattle.csi_world.proofs.Words.{EachTwo, IsBefore, is_ok_status, has_id_by_rule, reply_frame, stale_reply, Issued}
+use Rattle.csi_world.proofs.Words.{is_doing, frame_of}
+use Rattle.csi_world.proofs.Lemmas.{false≢true, none-some, same_Some, some_is_not_none, is_some-map, all_of}
+use Rattle.csi_world.proofs.Lemmas.{among-append, among-either, same_plugin_thing-tells}
 use Rattle.csi_types.specs.declared.call.Call.TheVariants as calls
-use Rattle.csi_types.specs.declared.call.Kind.{Kind}
-use Rattle.csi_types.specs.declared.call.Party.{Party}
 use Rattle.csi_types.specs.declared.frame.Body.TheVariants as bodies
-use Rattle.csi_types.specs.declared.reply.Reply.{Reply}
 use Rattle.csi_types.specs.declared.status.Status.TheVariants.{Ok}
-use Rattle.csi_types.specs.Model.Call.{kind_of}
-use Rattle.csi_fence.specs.Public.Delivery.{PluginView, Delivery, Acts, Rests, Misses, IsClosed}
-use Rattle.csi_fence.specs.Model.Fence.{Kept}
-use Rattle.csi_types.specs.Model.Frame.{Frame}
-use Rattle.csi_types.specs.Public.PluginThing.{PluginThing, HasId, same_plugin_thing, asked}
-use Rattle.csi_lists.specs.Model.Members.{IsAmong, EachTwo}
-use Rattle.csi_lists.proofs.Members.{all_of, among-append, among-either}
-use Rattle.csi_types.specs.Model.Number.{IsBefore}
-use Rattle.csi_types.specs.Model.Reply.{is_ok_status}
-use Rattle.csi_types.specs.Public.Reply.{has_id_by_rule}
-use Rattle.csi_types.specs.Model.Replies.{reply_frame, stale_reply}
-use Rattle.csi_types.proofs.Equality.{same_plugin_thing-tells}
-use Rattle.csi_orchestrator.specs.Model.Thing.{Issued, is_doing}
-use Rattle.csi_orchestrator.specs.Public.Steps.{frame_of}
 use Rattle.csi_world.proofs.Parties.{party_of}
 use Rattle.csi_world.proofs.HeardReplies.{is_ok-then}
 use Rattle.csi_world.proofs.CallThings.{is_of, is_plugin_thing, plugin_thing_at, IsAnsweredOk, ComesAfter, before-irreflexive, one-number}

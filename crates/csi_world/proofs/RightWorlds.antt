@@ -1,17 +1,11 @@
 -- What is kept of every world, and by the items of a history that end nothing.
-use Rattle.std.proofs.Common.{◌≡◌, ◌⊎◌, ◌≤◌, List, [], ◌∷◌, true, false, Option, Some, None, find, refl, sym, ap, subst, inr, ⊎_elim, arith}
-use Rattle.std.proofs.lemmas.Bool.Decides.{nat_tests}
-use Rattle.csi_types.specs.declared.number.Number.{Number}
-use Rattle.csi_types.specs.Model.Number.{is_before, IsBefore}
-use Rattle.csi_types.specs.Public.PluginThing.{PluginThing, Exists, Attached}
+use Rattle.csi_world.proofs.Words.{◌≡◌, ◌⊎◌, ◌≤◌, List, [], ◌∷◌, true, false, Option, Some, None, find, refl, sym, ap}
+use Rattle.csi_world.proofs.Words.{subst, inr, ⊎_elim, arith, Number, is_before, IsBefore, PluginThing, Exists}
+use Rattle.csi_world.proofs.Words.{Attached, IsAmong, PluginView, Issued, touches, Item, Accepted, History, with_items}
+use Rattle.csi_world.proofs.Words.{issued_by, issued_in, last_in, last_number, World, with_history}
+use Rattle.csi_world.proofs.Lemmas.{nat_tests}
 use Rattle.csi_types.proofs.Order.{before-trans}
-use Rattle.csi_lists.specs.Model.Members.{IsAmong}
-use Rattle.csi_fence.specs.Public.Delivery.{PluginView}
 use Rattle.csi_orchestrator.specs.declared.thing.Thing.TheVariants as things
-use Rattle.csi_orchestrator.specs.Model.Thing.{Issued, touches}
-use Rattle.csi_orchestrator.specs.Model.History.{Item, Accepted, History, with_items}
-use Rattle.csi_orchestrator.specs.Model.Readings.{issued_by, issued_in, last_in, last_number}
-use Rattle.csi_world.specs.Model.World.{World, with_history}
 use Rattle.csi_world.proofs.WorldView.{view_of}
 use Rattle.csi_world.proofs.GivenIds.{GivenId}
 use Rattle.csi_world.proofs.CallThings.{is_of}

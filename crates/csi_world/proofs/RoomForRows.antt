@@ -1,38 +1,20 @@
 -- A node has room for the row of a call that was just sent: its rows are of volumes that the orchestrator has rows of.
-use Rattle.std.proofs.Common.{◌≡◌, ◌⊎◌, ℕ, ◌+◌, ◌<◌, ◌≤◌, List, [], ◌∷◌, ◌++◌, length, map, find, Bool, true, false, cond, Option, Some, None, option_map, is_some, ◌&&◌, ◌==◌, refl, sym, ◌∙◌, ap, subst, inl, inr, ⊎_elim, length-append, arith}
-use Rattle.std.specs.Prelude.{is_none, nat_le, nat_lt, IsSome}
-use Rattle.std.specs.List.{AllByRecursion}
-use Rattle.std.proofs.lemmas.Bool.{and_parts, eqb-true, eq-eqb, false≢true}
-use Rattle.std.proofs.lemmas.Bool.Decides.{nat_tests}
-use Rattle.std.proofs.lemmas.List.{length-map}
-use Rattle.std.proofs.lemmas.Option.{same_Some}
-use Rattle.csi_types.specs.declared.rows.TheConstants.{MAX_ROWS}
-use Rattle.csi_types.specs.declared.number.Number.{Number}
-use Rattle.csi_types.specs.declared.call.Call.{Call}
+use Rattle.csi_world.proofs.Words.{◌≡◌, ◌⊎◌, ℕ, ◌+◌, ◌<◌, ◌≤◌, List, [], ◌∷◌, ◌++◌, length, map, find, Bool, true}
+use Rattle.csi_world.proofs.Words.{false, cond, Option, Some, None, option_map, is_some, ◌&&◌, ◌==◌, refl, sym, ◌∙◌, ap}
+use Rattle.csi_world.proofs.Words.{subst, inl, inr, ⊎_elim, length-append, arith, is_none, nat_le, nat_lt, IsSome}
+use Rattle.csi_world.proofs.Words.{AllByRecursion, MAX_ROWS, Number, Call, Party, Controller, Node, PluginThing, Exists}
+use Rattle.csi_world.proofs.Words.{same_text, IsAmong, EachTwo, begins, Volume, live_volume, NodeState, AnsweredVolume}
+use Rattle.csi_world.proofs.Words.{StagedVolume, staged_of, row_with_id, row_of_volume, volume_of, Issued, Item}
+use Rattle.csi_world.proofs.Words.{Started, Sent, History, with_items, issued_in, last_in, last_number, names_of}
+use Rattle.csi_world.proofs.Words.{has_row, AreWellFormed, World, node_state, Safe}
+use Rattle.csi_world.proofs.Lemmas.{and_parts, eqb-true, eq-eqb, false≢true, nat_tests, length-map, same_Some}
+use Rattle.csi_world.proofs.Lemmas.{same_text-tells, all_of, each_of, among-append, among-find, among-joined}
+use Rattle.csi_world.proofs.Lemmas.{among-kept, among-map, among-right, none_passes, two-filter, two-map, two-more}
+use Rattle.csi_world.proofs.Lemmas.{find-passes, any-then, AreCurrent, all_current}
 use Rattle.csi_types.specs.declared.call.Call.TheVariants as calls
-use Rattle.csi_types.specs.declared.call.Party.{Party}
-use Rattle.csi_types.specs.declared.call.Party.TheVariants.{Controller, Node}
-use Rattle.csi_types.specs.Public.PluginThing.{PluginThing, Exists}
-use Rattle.csi_types.specs.Model.Same.{same_text}
-use Rattle.csi_types.proofs.Equality.{same_text-tells}
-use Rattle.csi_lists.specs.Model.Members.{IsAmong, EachTwo}
-use Rattle.csi_lists.proofs.Members.{all_of, each_of, among-append, among-find, among-joined, among-kept, among-map, among-right, none_passes}
-use Rattle.csi_lists.proofs.Pairs.{two-filter, two-map, two-more}
-use Rattle.csi_lists.proofs.Searches.{find-passes}
-use Rattle.csi_lists.proofs.Tests.{any-then}
-use Rattle.csi_fence.specs.Model.Fence.{begins}
-use Rattle.csi_controller.specs.Model.State.{Volume, live_volume}
 use Rattle.csi_controller.specs.Public.View as controllers
-use Rattle.csi_node.specs.Model.State.{NodeState, AnsweredVolume, StagedVolume, staged_of, row_with_id, row_of_volume, volume_of}
 use Rattle.csi_node.specs.Model.Fenced as nodes
-use Rattle.csi_node.proofs.SessionsLaw.{AreCurrent, all_current}
 use Rattle.csi_orchestrator.specs.declared.thing.Thing.TheVariants as things
-use Rattle.csi_orchestrator.specs.Model.Thing.{Issued}
-use Rattle.csi_orchestrator.specs.Model.History.{Item, Started, Lost, Forgotten, Sent, Accepted, Closed, Noted, History, with_items}
-use Rattle.csi_orchestrator.specs.Model.Readings.{issued_in, last_in, last_number, names_of, has_row}
-use Rattle.csi_orchestrator.specs.Model.WellFormed.{AreWellFormed}
-use Rattle.csi_world.specs.Model.World.{World, node_state}
-use Rattle.csi_world.specs.Model.Safe.{Safe}
 use Rattle.csi_world.proofs.CallThings.{IsFor, IsOwnNow}
 use Rattle.csi_world.proofs.Forgotten.{told_by}
 use Rattle.csi_world.proofs.KnownThings.{IsSoFar}
@@ -91,11 +73,7 @@ few-ids has one (id ∷ ids) names apart named =
 session-grows : (began : Number) (item : Item) (older : List Item) → AreWellFormed began (item ∷ older) → (last_in began older).session ≤ (last_in began (item ∷ older)).session
 session-grows began (Started session nodes) older form = let less = form.0 in omega (arith, less)
 session-grows began (Sent issued) older form = let same = form.0.0.same_session in omega (arith, same)
-session-grows began (Lost node) older form = omega arith
-session-grows began (Forgotten name) older form = omega arith
-session-grows began (Accepted number status id) older form = omega arith
-session-grows began (Closed number) older form = omega arith
-session-grows began (Noted name goal) older form = omega arith
+session-grows began item older form = omega arith
 
 -- what ended did so by the last session
 over-last : (began : Number) (items : List Item) (thing : PluginThing) → AreWellFormed began items → over_in began items thing ≤ (last_in began items).session
@@ -116,10 +94,7 @@ own-volume has name node (calls.NodeStageVolume id capability) own = (id, refl, 
 own-volume has name node (calls.NodeUnstageVolume id) own = (id, refl, own)
 own-volume has name node (calls.NodePublishVolume id target capability readonly) own = (id, refl, own)
 own-volume has name node (calls.NodeUnpublishVolume id target) own = (id, refl, own)
-own-volume has name node (calls.CreateVolume create required limit capabilities) own = absurd own
-own-volume has name node (calls.DeleteVolume id) own = absurd own
-own-volume has name node (calls.ControllerPublishVolume id there capability readonly) own = absurd own
-own-volume has name node (calls.ControllerUnpublishVolume id there) own = absurd own
+own-volume has name node call own = absurd own
 
 module _ (laws : RunLaws) (world : World) (run : IsRun world) where
   abbrev given : List GivenId

@@ -1,55 +1,32 @@
 -- The rows of an orchestrator in a world to which events led, and what they tell: each volume that is there has an id, and what may be
 -- staged or published is so at a listed node.
-use Rattle.std.proofs.Common.{◌≡◌, ◌≢◌, ◌⊎◌, ℕ, List, [], ◌∷◌, find, Bool, true, false, cond, Option, Some, None, refl, sym, ◌∙◌, ap, subst, inl, inr, ⊎_elim, arith, Result, Ok, Err}
-use Rattle.std.specs.Prelude.{is_some, not, IsTrue, filter_map, option_and_then}
-use Rattle.std.specs.List.{AllByRecursion, list_any}
-use Rattle.std.proofs.lemmas.Bool.{false≢true}
-use Rattle.std.proofs.lemmas.Option.{none-some}
-use Rattle.csi_types.specs.declared.number.Number.{Number}
-use Rattle.csi_types.specs.declared.call.Call.{Call}
+use Rattle.csi_world.proofs.Words.{◌≡◌, ◌≢◌, ◌⊎◌, ℕ, List, [], ◌∷◌, find, true, false, cond, Option, Some, None, refl}
+use Rattle.csi_world.proofs.Words.{sym, ◌∙◌, ap, subst, inl, inr, ⊎_elim, arith, Result, Ok, Err, is_some, not, IsTrue}
+use Rattle.csi_world.proofs.Words.{filter_map, option_and_then, AllByRecursion, list_any, Number, Call, Party}
+use Rattle.csi_world.proofs.Words.{Controller, Node, Capability, Reply, kind_of, is_ok_status, same_text, PluginThing}
+use Rattle.csi_world.proofs.Words.{Exists, has_id_by_rule, IsAmong, EachTwo, OrchFault, Thing, Known, Yes, No, Maybe}
+use Rattle.csi_world.proofs.Words.{Issued, name_in, is_doing, Item, Accepted, History, newest, known, id_of, nodes_of}
+use Rattle.csi_world.proofs.Words.{id_in, id_by, is_success_of, issued_in, issued_since, lifetime, Input, Moved, moves}
+use Rattle.csi_world.proofs.Words.{NodeEntryShown, RowShown, OrchestratorParts, row_of, node_entry_of, mark_in, mark_of}
+use Rattle.csi_world.proofs.Words.{publication_known, Shows, IsWellFormed, moved_to, MovedRows, IsStanding}
+use Rattle.csi_world.proofs.Words.{IsStandingIf, IsSteadyRow, IsSteadyRowIf, AreSteadyRows, AreSteadyRowsIf, HasOne}
+use Rattle.csi_world.proofs.Words.{HasMarks, IsAtWork, IsAtRest, IsLeftSo, AreMarked, World}
+use Rattle.csi_world.proofs.Lemmas.{false≢true, none-some, same_text-tells, all_of, each_of, among-find, in-filter_map}
+use Rattle.csi_world.proofs.Lemmas.{in_filter, find-one, find-passes, any-then, one-each}
 use Rattle.csi_types.specs.declared.call.Call.TheVariants as calls
 use Rattle.csi_types.specs.declared.call.Kind.TheVariants as kinds
-use Rattle.csi_types.specs.declared.call.Party.{Party}
-use Rattle.csi_types.specs.declared.call.Party.TheVariants.{Controller, Node}
-use Rattle.csi_types.specs.declared.capability.Capability.{Capability}
-use Rattle.csi_types.specs.declared.reply.Reply.{Reply}
 use Rattle.csi_types.specs.declared.status.Status.TheVariants as statuses
-use Rattle.csi_types.specs.Model.Call.{kind_of}
-use Rattle.csi_types.specs.Model.Reply.{is_ok_status}
-use Rattle.csi_types.specs.Model.Same.{same_text}
-use Rattle.csi_types.specs.Public.PluginThing.{PluginThing, Exists}
-use Rattle.csi_types.specs.Public.Reply.{has_id_by_rule}
-use Rattle.csi_types.proofs.Equality.{same_text-tells}
-use Rattle.csi_lists.specs.Model.Members.{IsAmong, EachTwo}
-use Rattle.csi_lists.proofs.Members.{all_of, each_of, among-find, in-filter_map, in_filter}
-use Rattle.csi_lists.proofs.Searches.{find-one, find-passes}
-use Rattle.csi_lists.proofs.Tests.{any-then}
-use Rattle.csi_orchestrator.specs.declared.fault.OrchFault.{OrchFault}
 use Rattle.csi_orchestrator.specs.declared.row.Goal.{Goal as KeptGoal}
 use Rattle.csi_orchestrator.specs.declared.row.Goal.TheVariants as kept
 use Rattle.csi_orchestrator.specs.declared.row.TargetEntry.{TargetEntry}
 use Rattle.csi_orchestrator.specs.declared.thing.Thing.TheVariants as things
-use Rattle.csi_orchestrator.specs.declared.thing.Thing.{Thing}
-use Rattle.csi_orchestrator.specs.declared.thing.Known.{Known}
-use Rattle.csi_orchestrator.specs.declared.thing.Known.TheVariants.{Yes, No, Maybe}
-use Rattle.csi_orchestrator.specs.Model.Thing.{Issued, name_in, is_doing}
-use Rattle.csi_orchestrator.specs.Model.History.{Item, Accepted, History}
-use Rattle.csi_orchestrator.specs.Model.Readings.{newest, known, id_of, nodes_of, id_in, id_by, is_success_of, issued_in, issued_since, lifetime}
-use Rattle.csi_orchestrator.specs.Model.Moves.{Input, Moved, moves}
-use Rattle.csi_orchestrator.specs.Model.Shown.{NodeEntryShown, RowShown, OrchestratorParts, row_of, node_entry_of, mark_in, mark_of, publication_known, Shows}
-use Rattle.csi_orchestrator.specs.Model.WellFormed.{IsWellFormed}
 use Rattle.csi_orchestrator.specs.Public.Bounds.{IsWithin, AreWithin, IsEntryWithin}
-use Rattle.csi_orchestrator.specs.Public.Moves.{moved_to}
-use Rattle.csi_orchestrator.specs.Public.RowMoves.{MovedRows}
 use Rattle.csi_orchestrator.specs.Public.Sound.{AreSoundRows}
-use Rattle.csi_orchestrator.specs.Public.Steady.{IsStanding, IsStandingIf, IsSteadyRow, IsSteadyRowIf, AreSteadyRows, AreSteadyRowsIf, HasOne, HasMarks, IsAtWork, IsAtRest, IsLeftSo, AreMarked}
 use Rattle.csi_orchestrator.proofs.BoundsStay.{rows-stay-within}
-use Rattle.csi_orchestrator.proofs.HasOnes.{one-each}
 use Rattle.csi_orchestrator.proofs.KeptRows.{any-fit, rows-stay-steady-if}
 use Rattle.csi_orchestrator.proofs.RepliesAgree.{all-tell}
 use Rattle.csi_orchestrator.proofs.RulesStay.{rows-stay-sound}
 use Rattle.csi_orchestrator.proofs.SendingAgrees.{Tells}
-use Rattle.csi_world.specs.Model.World.{World}
 use Rattle.csi_world.proofs.CallThings.{IsThingBy, Existence, Attachment, Staging, Publication, is_of, is_plugin_thing, plugin_thing_at}
 use Rattle.csi_world.proofs.Forgotten.{told_by}
 use Rattle.csi_world.proofs.GivenIds.{GivenId}
@@ -192,26 +169,13 @@ strict history rows ids = all_of IsSteadyRow rows.parts.rows (λ row among.
     by : (row : RowShown) → row_of rows.parts.rows row.name ≡ Some row → (goal : Option KeptGoal) (id : Option ℕ) (exists : Known) → row.id ≡ id → row.exists ≡ exists → IsStandingIf (Unit {0}) goal id exists → IsStanding goal id exists
     by row found None None Maybe i x own = tt
     by row found None None Yes i x own = none row found i x
-    by row found None None No i x own = own
     by row found None (Some id) Yes i x own = tt
     by row found None (Some id) No i x own = tt
-    by row found None (Some id) Maybe i x own = own
     by row found (Some kept.Create) None Maybe i x own = tt
-    by row found (Some kept.Create) None Yes i x own = own
-    by row found (Some kept.Create) None No i x own = own
-    by row found (Some kept.Create) (Some id) exists i x own = own
     by row found (Some (kept.Use usage)) (Some id) Yes i x own = tt
-    by row found (Some (kept.Use usage)) (Some id) No i x own = own
-    by row found (Some (kept.Use usage)) (Some id) Maybe i x own = own
-    by row found (Some (kept.Use usage)) None exists i x own = own
     by row found (Some (kept.Stop node target)) (Some id) Yes i x own = tt
-    by row found (Some (kept.Stop node target)) (Some id) No i x own = own
-    by row found (Some (kept.Stop node target)) (Some id) Maybe i x own = own
-    by row found (Some (kept.Stop node target)) None exists i x own = own
     by row found (Some kept.Delete) (Some id) Maybe i x own = tt
-    by row found (Some kept.Delete) (Some id) Yes i x own = own
-    by row found (Some kept.Delete) (Some id) No i x own = own
-    by row found (Some kept.Delete) None exists i x own = own
+    by row found goal id exists i x own = own
 
 -- there are such rows after each input
 pub rows-next : (history : History) (input : Input) → IsWellFormed history → HaveIds history → HasRows history → HasRows (moved_to history (moves history input))
@@ -269,9 +233,7 @@ all-targeted (Some (kept.Use usage)) entries marked =
 all-targeted (Some (kept.Stop node target)) entries marked =
     one-each (λ (e : NodeEntryShown). e.node) node (λ e. HasMarks IsAtWork target e ⊎ IsLeftSo (λ mark. mark ≢ No) e) IsAtRest IsTargeted entries
     (λ entry found so staged. ⊎_elim (λ marks. marks-targeted target entry marks) (λ left. absurd (staged left.staged)) so) resting-targeted marked
-all-targeted (Some kept.Create) entries marked = all_of IsTargeted entries (λ entry among. resting-targeted entry (each_of IsAtRest entries entry marked among))
-all-targeted (Some kept.Delete) entries marked = all_of IsTargeted entries (λ entry among. resting-targeted entry (each_of IsAtRest entries entry marked among))
-all-targeted None entries marked = all_of IsTargeted entries (λ entry among. resting-targeted entry (each_of IsAtRest entries entry marked among))
+all-targeted goal entries marked = all_of IsTargeted entries (λ entry among. resting-targeted entry (each_of IsAtRest entries entry marked among))
 
 -- the entry of a node of the name's row, where something is known of it
 record HasEntryAt (history : History) (rows : HasRows history) (name node : List ℕ) (mark : NodeEntryShown → Known) : Type 0 where
@@ -286,9 +248,6 @@ record HasEntryAt (history : History) (rows : HasRows history) (name node : List
 entry-at : (history : History) (rows : HasRows history) (name node : List ℕ) (mark : NodeEntryShown → Known) → mark_in (λ (row : RowShown). mark_in mark (node_entry_of row node)) (row_of rows.parts.rows name) ≢ No → HasEntryAt history rows name node mark
 entry-at history rows name node mark some = by (row_of rows.parts.rows name) refl some
   where
-    p : RowShown → Bool
-    p r = same_text r.name name
-
     at : (row : RowShown) → row_of rows.parts.rows name ≡ Some row → (o : Option NodeEntryShown) → node_entry_of row node ≡ o → mark_in mark o ≢ No → HasEntryAt history rows name node mark
     at row e None f some = absurd (some refl)
     at row e (Some entry) f some =

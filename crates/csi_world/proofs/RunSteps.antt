@@ -1,37 +1,26 @@
 -- Why the run of any list of events is made of steps.
-use Rattle.std.proofs.Common.{◌≡◌, ◌+◌, ◌≤◌, ℕ, zero, suc, List, [], ◌∷◌, ◌++◌, length, map, filter_map, reverse, Bool, true, false}
-use Rattle.std.proofs.Common.{cond, Option, Some, None, not, ◌||◌, Result, Ok, Err, slice_get, refl, sym, ◌∙◌, ap, subst, arith, length-append, append_assoc, append-nil}
-use Rattle.std.specs.List.{AllByRecursion, cons_option}
-use Rattle.std.specs.Prelude.{is_none}
-use Rattle.std.proofs.lemmas.Option.{none-some}
-use Rattle.std.proofs.lemmas.List.{reverse-append}
-use Rattle.std.proofs.lemmas.List.Elements.{filter_map-append}
-use Rattle.csi_types.specs.declared.call.Party.{Party}
-use Rattle.csi_types.specs.declared.call.Party.TheVariants.{Controller, Node}
-use Rattle.csi_types.specs.declared.frame.Body.{Body}
+use Rattle.csi_world.proofs.Words.{◌≡◌, ◌+◌, ◌≤◌, ℕ, zero, suc, List, [], ◌∷◌, ◌++◌, length, map, filter_map, reverse}
+use Rattle.csi_world.proofs.Words.{Bool, true, false, cond, Option, Some, None, not, ◌||◌, Result, Ok, Err, slice_get}
+use Rattle.csi_world.proofs.Words.{refl, sym, ◌∙◌, ap, subst, arith, length-append, append_assoc, append-nil}
+use Rattle.csi_world.proofs.Words.{AllByRecursion, cons_option, is_none, Party, Controller, Node, Body, Frame}
+use Rattle.csi_world.proofs.Words.{same_text, IsAmong, NodeState, OrchFault, Goal, Create, Use, Stop, Delete, Item}
+use Rattle.csi_world.proofs.Words.{Started, Lost, Forgotten, Sent, Accepted, Closed, Noted, History, with_items}
+use Rattle.csi_world.proofs.Words.{issued_by, issued_in, last_number, nodes_of, names_of, goal_of, has_row, loss_fault}
+use Rattle.csi_world.proofs.Words.{Event, World, node_id, empty_world, node_state, without_node, with_history, Choice}
+use Rattle.csi_world.proofs.Words.{Sends, Closes, Takes, Notes, Starts, Forgets, Answers, Joins, Loses, Configures}
+use Rattle.csi_world.proofs.Words.{chosen, MayChooseAll, chosen_all, frame_of, answered_by_plugin, Occurred, OnItsWay}
+use Rattle.csi_world.proofs.Words.{by_answer, by_result, orchestrated, called_at, called, delivered_body, delivered}
+use Rattle.csi_world.proofs.Words.{frame_numbered, restarted_at, joined_at, lost_by, is_node_of, lost, delivered_on}
+use Rattle.csi_world.proofs.Words.{brought_on, settled_by, settling_way, occurs, after_from}
+use Rattle.csi_world.proofs.Lemmas.{none-some, reverse-append, filter_map-append, each-append, among-append}
 use Rattle.csi_types.specs.declared.frame.Body.TheVariants as bodies
-use Rattle.csi_types.specs.Model.Frame.{Frame}
-use Rattle.csi_types.specs.Model.Same.{same_text}
-use Rattle.csi_lists.specs.Model.Members.{IsAmong}
-use Rattle.csi_lists.proofs.Each.{each-append}
-use Rattle.csi_lists.proofs.Members.{among-append}
-use Rattle.csi_node.specs.Model.State.{NodeState}
 use Rattle.csi_orchestrator.specs.declared.fault.Heard.TheVariants as heard
-use Rattle.csi_orchestrator.specs.declared.fault.OrchFault.{OrchFault}
-use Rattle.csi_orchestrator.specs.Model.History.{Goal, Create, Use, Stop, Delete, Item, Started, Lost, Forgotten, Sent, Accepted, Closed, Noted, History, with_items}
-use Rattle.csi_orchestrator.specs.Model.Readings.{issued_by, issued_in, last_number, nodes_of, names_of, goal_of, has_row}
-use Rattle.csi_orchestrator.specs.Model.Commands.{loss_fault}
 use Rattle.csi_orchestrator.specs.Model.Moves as orchestrator
 use Rattle.csi_orchestrator.specs.Public.Moves as public_orchestrator
 use Rattle.csi_orchestrator.specs.Public.Steps as stepwise
-use Rattle.csi_types.specs.declared.event.Event.{Event}
 use Rattle.csi_types.specs.declared.event.Event.TheVariants as events
 use Rattle.csi_world.specs.declared.outcomes.Outcome.TheVariants as outcomes
-use Rattle.csi_world.specs.Model.World.{World, node_id, empty_world, node_state, without_node, with_history}
-use Rattle.csi_world.specs.Public.Step.{Choice, Sends, Closes, Takes, Notes, Starts, Forgets, Answers, Joins, Loses, Configures, chosen, MayChooseAll, chosen_all}
-use Rattle.csi_orchestrator.specs.Public.Steps.{frame_of}
-use Rattle.csi_world.specs.Model.Step.{answered_by_plugin}
-use Rattle.csi_world.specs.Model.After.{Occurred, OnItsWay, by_answer, by_result, orchestrated, called_at, called, delivered_body, delivered, frame_numbered, restarted_at, joined_at, lost_by, is_node_of, lost, is_at_rest, delivered_on, brought_on, settled_by, settling_way, occurs, after_from}
+use Rattle.csi_world.specs.Model.After.{is_at_rest}
 use Rattle.csi_world.specs.Private.Laws.{most_steps, most_steps_from, RunsAreSteps}
 use Rattle.csi_world.proofs.HeardReplies.{among-get}
 use Rattle.csi_world.proofs.PluginsReached.{answered-history}
@@ -190,10 +179,7 @@ stopping-plain node history (name ∷ names) = by (orchestrator.stopping node na
             clash : Some (Noted name (Some (Stop usage.node usage.target))) ≡ Some (Lost lost) → ⊥
             clash h = cc
         at false e lost is = absurd (none-some item e)
-    noted (Some (Create arguments)) item e = absurd (none-some item e)
-    noted (Some (Stop at target)) item e = absurd (none-some item e)
-    noted (Some Delete) item e = absurd (none-some item e)
-    noted None item e = absurd (none-some item e)
+    noted goal item e = absurd (none-some item e)
 
     by : (o : Option Item) → ((item : Item) → o ≡ Some item → IsNoLoss item) → AllByRecursion IsNoLoss rest → AllByRecursion IsNoLoss (cons_option o rest)
     by None plain others = others

@@ -1,14 +1,7 @@
 -- Worlds to which events lead.
-use Rattle.std.proofs.Common.{List, [], ◌∷◌, map, subst}
-use Rattle.csi_types.specs.declared.event.Event.{Event}
+use Rattle.csi_world.proofs.Words.{List, [], ◌∷◌, map, subst, Event, Config, History, IsWellFormed, MovesKeepForm}
+use Rattle.csi_world.proofs.Words.{IsReached, Begins, MovesLaw, World, node_id, empty_world, occurs, after, after_from}
 use Rattle.csi_types.specs.declared.event.Event.TheVariants as events
-use Rattle.csi_types.specs.Model.Config.{Config}
-use Rattle.csi_orchestrator.specs.Model.History.{History}
-use Rattle.csi_orchestrator.specs.Model.WellFormed.{IsWellFormed}
-use Rattle.csi_orchestrator.specs.Public.Laws.{MovesKeepForm}
-use Rattle.csi_orchestrator.specs.Public.Steps.{IsReached, Begins, MovesLaw}
-use Rattle.csi_world.specs.Model.World.{World, node_id, empty_world}
-use Rattle.csi_world.specs.Model.After.{occurs, after, after_from}
 use Rattle.csi_world.proofs.Deliveries.{PluginLaws}
 use Rattle.csi_world.proofs.RightWorlds.{IsRight}
 use Rattle.csi_world.proofs.ChoicesRight.{empty-right, all-right}

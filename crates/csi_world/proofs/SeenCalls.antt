@@ -1,20 +1,13 @@
 -- A sent call as its plugin sees it: by its thing, or as one whose volume the plugin doesn't have.
-use Rattle.std.proofs.Common.{◌≡◌, ◌⊎◌, ℕ, List, true, false, Option, Some, None, option_map, refl, sym, ◌∙◌, ap, subst, inl, inr, ⊎_elim}
-use Rattle.std.proofs.lemmas.Bool.{and_parts, and_from, false≢true, eqb-true, eq-eqb}
-use Rattle.std.proofs.lemmas.Option.{none-some, same_Some}
-use Rattle.csi_types.specs.declared.call.Call.{Call}
+use Rattle.csi_world.proofs.Words.{◌≡◌, ◌⊎◌, ℕ, List, true, false, Option, Some, None, option_map, refl, sym, ◌∙◌, ap}
+use Rattle.csi_world.proofs.Words.{subst, inl, inr, ⊎_elim, Call, Party, Controller, Node, PluginThing, Exists}
+use Rattle.csi_world.proofs.Words.{Attached, Staged, Published, IsAmong, Volume, ControllerState, volume_with_id}
+use Rattle.csi_world.proofs.Words.{same_text}
+use Rattle.csi_world.proofs.Lemmas.{and_parts, and_from, false≢true, eqb-true, eq-eqb, none-some, same_Some}
+use Rattle.csi_world.proofs.Lemmas.{same_text-tells, none-from_map}
 use Rattle.csi_types.specs.declared.call.Call.TheVariants as calls
-use Rattle.csi_types.specs.declared.call.Party.{Party}
-use Rattle.csi_types.specs.declared.call.Party.TheVariants.{Controller, Node}
-use Rattle.csi_types.specs.Public.PluginThing.{PluginThing, Exists, Attached, Staged, Published}
-use Rattle.csi_types.proofs.Equality.{same_text-tells}
-use Rattle.csi_lists.specs.Model.Members.{IsAmong}
-use Rattle.csi_controller.specs.Model.State.{Volume, ControllerState}
-use Rattle.csi_controller.specs.Public.State.{volume_with_id}
 use Rattle.csi_controller.specs.Public.View as controllers
 use Rattle.csi_node.specs.Public.View as nodes
-use Rattle.csi_types.specs.Model.Same.{same_text}
-use Rattle.csi_lists.proofs.Options.{none-from_map}
 use Rattle.csi_world.proofs.GivenIds.{GivenId, HasNow, HasName, AreGiven, AreOf, now-given, id-named, is_given}
 use Rattle.csi_world.proofs.CallThings.{plugin_thing_at, IsOwn, IsOwnNow, is_making}
 

@@ -1,31 +1,16 @@
 -- Events by which a volume comes to rest, one after another.
-use Rattle.std.proofs.Common.{◌≡◌, ℕ, zero, suc, ◌+◌, ◌≤◌, ◌<◌, List, [], ◌∷◌, ◌++◌, length, map, get_or, set, slice_get, Bool, true, false, cond, not, Option, Some, None, ◌||◌, refl, sym, ◌∙◌, ap, subst, append-nil, append_assoc, length-append, arith}
-use Rattle.std.specs.List.{list_any}
-use Rattle.std.specs.Prelude.{is_some, is_none, nat_lt, option_and_then}
-use Rattle.std.proofs.lemmas.Bool.Decides.{nat_tests}
-use Rattle.csi_types.specs.declared.event.Event.{Event}
-use Rattle.csi_types.specs.declared.event.Event.TheVariants.{Timeout, Deliver}
-use Rattle.csi_types.specs.Model.Config.{Config}
-use Rattle.csi_types.specs.Public.Config.{config_fault}
-use Rattle.csi_lists.proofs.Tests.{any-of_map}
-use Rattle.csi_node.specs.Model.Record.{NodeParts}
-use Rattle.csi_types.specs.Model.Same.{same_text}
-use Rattle.csi_lists.proofs.Options.{is_some-map}
-use Rattle.csi_lists.proofs.Places.{FirstAt-find, FirstAt-position}
-use Rattle.csi_lists.proofs.Searches.{find-no_place}
+use Rattle.csi_world.proofs.Words.{◌≡◌, ℕ, zero, suc, ◌+◌, ◌≤◌, ◌<◌, List, [], ◌∷◌, ◌++◌, length, map, get_or, set}
+use Rattle.csi_world.proofs.Words.{slice_get, Bool, true, false, cond, not, Option, Some, None, ◌||◌, refl, sym, ◌∙◌}
+use Rattle.csi_world.proofs.Words.{ap, subst, append-nil, append_assoc, length-append, arith, list_any, is_some}
+use Rattle.csi_world.proofs.Words.{is_none, nat_lt, option_and_then, Event, Timeout, Deliver, Config, config_fault}
+use Rattle.csi_world.proofs.Words.{NodeParts, same_text, History, goal_of, has_row, RowShown, OrchestratorParts, row_of}
+use Rattle.csi_world.proofs.Words.{goal_in, goal_shown, Shows, World, empty_world, Run, occurs, after, is_at_rest}
+use Rattle.csi_world.proofs.Words.{deliveries, settling, settled, WorldParts, ShowsRun, ShowsWorld, WentOn, IsOfOneMake}
+use Rattle.csi_world.proofs.Words.{IsRun, IsLogged, IsSoundWorld, has_same_id}
+use Rattle.csi_world.proofs.Lemmas.{nat_tests, any-of_map, is_some-map, FirstAt-find, FirstAt-position, find-no_place}
 use Rattle.csi_orchestrator.specs.declared.row.Row.{Row}
-use Rattle.csi_orchestrator.specs.Model.History.{History}
-use Rattle.csi_orchestrator.specs.Model.Readings.{goal_of, has_row}
-use Rattle.csi_orchestrator.specs.Model.Shown.{RowShown, OrchestratorParts, row_of, goal_in, goal_shown, Shows}
 use Rattle.csi_orchestrator.specs.Public.Changed.{place_by_name}
 use Rattle.csi_orchestrator.specs.Public.Shown.{row_shown}
-use Rattle.csi_world.specs.Model.World.{World, empty_world}
-use Rattle.csi_world.specs.Model.After.{Run, occurs, after}
-use Rattle.csi_world.specs.Public.Settling.{is_at_rest, deliveries, settling, settled}
-use Rattle.csi_world.specs.Model.Simulated.{WorldParts, ShowsRun, ShowsWorld}
-use Rattle.csi_world.specs.Private.Settling.{WentOn, IsOfOneMake}
-use Rattle.csi_world.specs.Private.Simulating.{IsRun, IsLogged}
-use Rattle.csi_world.specs.Public.Simulating.{IsSoundWorld, has_same_id}
 use Rattle.csi_world.proofs.SettledWorlds.{after-joined}
 use Rattle.csi_world.proofs.SimulatedRuns.{after-more, run-more}
 
@@ -216,21 +201,6 @@ delivered-more config events name first count number old new few numbered goes o
         }
 
 -- ---- with the timeout
-
--- where nothing is wanted, nothing happens
-pub nothing-settled : (config : Config) (events : List Event) (name : List ℕ) (shown : WorldParts) → ((history : History) → Shows shown.orchestrator history → false ≡ is_some (goal_of history name)) → IsRun config events shown
-    → WentOn config events (settling (after config events).world name) shown 0
-nothing-settled config events name shown unwanted run =
-    subst (λ es. WentOn config events es shown 0) (sym none) (record { is_run = subst (λ es. IsRun config es shown) (sym (append-nil events)) run; counted = refl })
-  where
-    world : World
-    world = (after config events).world
-
-    rest : is_at_rest world name ≡ true
-    rest = rest-wanted world name ∙ ap not (sym (unwanted world.history ((run.shows).world).orchestrator))
-
-    none : settling world name ≡ []
-    none = ap (λ b. cond (b || not (has_row world.history name)) [] (Timeout name ∷ deliveries 12 (occurs world (Timeout name)).world name (length world.frames))) rest
 
 -- a timeout, and then the deliveries
 pub all-settled : (config : Config) (events : List Event) (name : List ℕ) (first count : ℕ) (old mid new : WorldParts) → ((history : History) → Shows old.orchestrator history → true ≡ is_some (goal_of history name)) → first ≡ length old.frames

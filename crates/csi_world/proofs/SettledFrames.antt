@@ -1,22 +1,11 @@
 -- Deliveries of the frames that are sent, one after another; no frame is ever taken out; and which of them are refusals.
-use Rattle.std.proofs.Common.{◌≡◌, ◌⊎◌, ℕ, zero, suc, ◌≤◌, List, [], ◌∷◌, ◌++◌, length, slice_get, Bool, true, false, cond, Some, None, ◌||◌, refl, sym, ◌∙◌, ap, inl, inr, ⊎_elim, arith, append-nil, append_assoc}
-use Rattle.std.specs.Prelude.{is_none}
-use Rattle.std.proofs.lemmas.Bool.{false≢true}
-use Rattle.std.proofs.lemmas.Option.{none-some, same_Some}
-use Rattle.csi_types.specs.declared.event.Event.{Event}
-use Rattle.csi_types.specs.declared.event.Event.TheVariants.{Deliver}
-use Rattle.csi_types.specs.declared.frame.Body.{Body}
+use Rattle.csi_world.proofs.Words.{◌≡◌, ◌⊎◌, ℕ, zero, suc, ◌≤◌, List, [], ◌∷◌, ◌++◌, length, slice_get, Bool, true}
+use Rattle.csi_world.proofs.Words.{false, cond, Some, None, ◌||◌, refl, sym, ◌∙◌, ap, inl, inr, ⊎_elim, arith}
+use Rattle.csi_world.proofs.Words.{append-nil, append_assoc, is_none, Event, Deliver, Body, Frame, is_ok_status}
+use Rattle.csi_world.proofs.Words.{reply_frame, same_text, Usage, Goal, Use, Stop, World, occurs, after_from}
+use Rattle.csi_world.proofs.Words.{is_at_rest, deliveries, WasRefused}
+use Rattle.csi_world.proofs.Lemmas.{false≢true, none-some, same_Some, same_text-tells}
 use Rattle.csi_types.specs.declared.frame.Body.TheVariants as bodies
-use Rattle.csi_types.specs.Model.Frame.{Frame}
-use Rattle.csi_types.specs.Model.Reply.{is_ok_status}
-use Rattle.csi_types.specs.Model.Replies.{reply_frame}
-use Rattle.csi_types.specs.Model.Same.{same_text}
-use Rattle.csi_types.proofs.Equality.{same_text-tells}
-use Rattle.csi_orchestrator.specs.declared.request.Usage.{Usage}
-use Rattle.csi_orchestrator.specs.Model.History.{Goal, Use, Stop}
-use Rattle.csi_world.specs.Model.World.{World}
-use Rattle.csi_world.specs.Model.After.{occurs, after_from}
-use Rattle.csi_world.specs.Public.Settling.{is_at_rest, deliveries, WasRefused}
 
 -- a text is the same as itself
 pub self : (text : List ℕ) → same_text text text ≡ true

@@ -1,26 +1,17 @@
 -- A volume comes to rest by one timeout and at most twelve deliveries: each call that is due is answered, and fewer are left then.
-use Rattle.std.proofs.Common.{◌≡◌, ◌⊎◌, ℕ, suc, ◌+◌, ◌^◌, ◌≤◌, ◌<◌, List, [], ◌∷◌, length, Bool, true, false, cond, not, find, Option, Some, None, ◌&&◌, ◌||◌, ◌==◌, refl, sym, ◌∙◌, ap, subst, inl, inr, ⊎_elim, arith}
-use Rattle.std.specs.Prelude.{is_none, IsSome}
+use Rattle.csi_world.proofs.Words.{◌≡◌, ◌⊎◌, ℕ, suc, ◌+◌, ◌^◌, ◌≤◌, ◌<◌, List, [], ◌∷◌, length, Bool, true, false, cond}
+use Rattle.csi_world.proofs.Words.{not, find, Option, Some, None, ◌&&◌, ◌||◌, ◌==◌, refl, sym, ◌∙◌, ap, subst, inl, inr}
+use Rattle.csi_world.proofs.Words.{⊎_elim, arith, is_none, IsSome, Node, Event, Timeout, NodeState, Usage, Issued}
+use Rattle.csi_world.proofs.Words.{touches, Thing, IsWellFormed, Goal, Use, Stop, Item, Sent, Closed, Noted, History}
+use Rattle.csi_world.proofs.Words.{with_items, goal_of, has_row, id_of, known, last_number, nodes_of, open_call, tries}
+use Rattle.csi_world.proofs.Words.{calls_since, Due, due_kind, due_for, due_call, TimesOut, moves, send_due}
+use Rattle.csi_world.proofs.Words.{is_forward_due, undoing_goal, closing, timeout, World, node_state, occurs}
+use Rattle.csi_world.proofs.Words.{after_from, is_at_rest, deliveries, settling, settled, node_in, MaySettle, Settles}
+use Rattle.csi_world.proofs.Words.{EndsSo}
+use Rattle.csi_world.proofs.Lemmas.{and_parts, eqb-true, eqb-false, false≢true, same_text-tells, open-sent}
 use Rattle.std.proofs.Math.Nat.{min-le_left}
-use Rattle.std.proofs.lemmas.Bool.{and_parts, eqb-true, eqb-false, false≢true}
-use Rattle.csi_types.specs.declared.call.Party.TheVariants.{Node}
-use Rattle.csi_types.specs.declared.event.Event.{Event}
-use Rattle.csi_types.specs.declared.event.Event.TheVariants.{Timeout}
-use Rattle.csi_types.proofs.Equality.{same_text-tells}
 use Rattle.csi_orchestrator.specs.declared.fault.OrchFault.TheVariants as faults
-use Rattle.csi_node.specs.Model.State.{NodeState}
-use Rattle.csi_orchestrator.specs.declared.request.Usage.{Usage}
-use Rattle.csi_orchestrator.specs.Model.Thing.{Issued, touches}
-use Rattle.csi_orchestrator.specs.declared.thing.Thing.{Thing}
-use Rattle.csi_orchestrator.specs.Model.WellFormed.{IsWellFormed}
-use Rattle.csi_orchestrator.proofs.Numbers.{open-sent}
-use Rattle.csi_orchestrator.specs.Model.History.{Goal, Create, Use, Stop, Delete, Item, Sent, Closed, Noted, History, with_items}
-use Rattle.csi_orchestrator.specs.Model.Readings.{goal_of, has_row, id_of, known, last_number, nodes_of, open_call, tries, calls_since}
-use Rattle.csi_orchestrator.specs.Model.Due.{Due, due_kind, due_for, due_call}
-use Rattle.csi_orchestrator.specs.Model.Moves.{TimesOut, Sends, moves, send_due, is_forward_due, undoing_goal, closing, timeout}
-use Rattle.csi_world.specs.Model.World.{World, node_state}
-use Rattle.csi_world.specs.Model.After.{occurs, after_from}
-use Rattle.csi_world.specs.Public.Settling.{is_at_rest, deliveries, settling, settled, node_in, MaySettle, Settles, EndsSo}
+use Rattle.csi_orchestrator.specs.Model.Moves.{Sends}
 use Rattle.csi_world.proofs.Lifetimes.{calls_for}
 use Rattle.csi_world.proofs.NamesRowed.{known-aside}
 use Rattle.csi_world.proofs.GoalsMet.{HasId, noted-id, closed-id, goal-id}
@@ -151,10 +142,8 @@ module _ (laws : RunLaws) (name : List ℕ) where
 
     -- what came of a goal, once the volume is at rest
     ends-so : (world last : World) (goal : Goal) → ((usage : Usage) → goal ≡ Use usage → tries world.history name < 3) → Ends (length world.frames) last name goal → EndsSo world last name (Some goal)
-    ends-so world last (Create arguments) few ends = ends
     ends-so world last (Use usage) few ends = ⊎_elim (λ made. inl (made.0, made.1, few usage refl)) (λ stopped. inr (stopped.0, inl stopped.1)) ends
-    ends-so world last (Stop node target) few ends = ends
-    ends-so world last Delete few ends = ends
+    ends-so world last goal few ends = ends
 
     -- a volume of which this is wanted comes to rest
     wanted-settles : (world : World) → IsRun world → MaySettle world name → (goal : Goal) → goal_of world.history name ≡ Some goal

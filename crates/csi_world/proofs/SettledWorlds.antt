@@ -2,7 +2,7 @@
 use Rattle.std.proofs.Common.{◌≡◌, ℕ, zero, suc, ◌+◌, List, [], ◌∷◌, ◌++◌, length, Bool, true, false, cond, not, ◌||◌, refl, sym, ◌∙◌, ap, arith}
 use Rattle.std.specs.Prelude.{is_none}
 use Rattle.csi_types.specs.declared.event.Event.{Event}
-use Rattle.csi_types.specs.declared.event.Event.TheVariants.{Create, Use, Stop, Delete, Timeout, Deliver, RestartOrchestrator, RestartOrchestratorWith, RestartController, RestartControllerWith, RestartNode, Join, Lose, Settle}
+use Rattle.csi_types.specs.declared.event.Event.TheVariants.{Timeout, Deliver, Settle}
 use Rattle.csi_orchestrator.specs.Model.Readings.{has_row}
 use Rattle.csi_world.specs.declared.outcomes.Outcome.TheVariants as outcomes
 use Rattle.csi_world.specs.Model.World.{World}
@@ -120,19 +120,7 @@ after-joined world (event ∷ others) more = after-joined (occurs world event).w
 -- an event, told by events that settle nothing
 spelled-world : (world : World) (event : Event) → (after_from world (spelled world event)).world ≡ (occurs world event).world
 spelled-world world (Settle name) = settled-world world name
-spelled-world world (Create name required limit capabilities) = refl
-spelled-world world (Use name node target capability readonly) = refl
-spelled-world world (Stop name node target) = refl
-spelled-world world (Delete name) = refl
-spelled-world world (Timeout name) = refl
-spelled-world world (Deliver number) = refl
-spelled-world world RestartOrchestrator = refl
-spelled-world world (RestartOrchestratorWith nodes) = refl
-spelled-world world RestartController = refl
-spelled-world world (RestartControllerWith config) = refl
-spelled-world world (RestartNode node) = refl
-spelled-world world (Join node) = refl
-spelled-world world (Lose node) = refl
+spelled-world world event = refl
 
 -- so are many
 pub all-spelled : (world : World) (events : List Event) → (after_from world (spelled_from world events)).world ≡ (after_from world events).world

@@ -1,18 +1,10 @@
 -- Runs, event by event.
-use Rattle.std.proofs.Common.{◌≡◌, false, List, [], ◌∷◌, ◌++◌, map, None, refl, sym, ◌∙◌, ap, subst}
-use Rattle.csi_types.specs.Model.Config.{Config}
-use Rattle.csi_types.specs.Public.Config.{config_fault}
+use Rattle.csi_world.proofs.Words.{◌≡◌, false, List, [], ◌∷◌, ◌++◌, map, None, refl, sym, ◌∙◌, ap, subst, Config}
+use Rattle.csi_world.proofs.Words.{config_fault, empty_controller, NodeParts, new_history, Event, World, node_id}
+use Rattle.csi_world.proofs.Words.{empty_world, Occurred, Run, occurs, after_from, after, WorldParts, ShowsWorld}
+use Rattle.csi_world.proofs.Words.{ShowsRun, AreNodesShown, IsLogged, IsRun, new_node_parts, has_same_id}
 use Rattle.csi_controller.specs.Model.Core.{Shows as ControllerShows}
-use Rattle.csi_controller.specs.Model.State.{empty_controller}
-use Rattle.csi_node.specs.Model.Record.{NodeParts}
-use Rattle.csi_orchestrator.specs.Model.History.{new_history}
 use Rattle.csi_orchestrator.specs.Model.Shown.{Shows as OrchestratorShows}
-use Rattle.csi_types.specs.declared.event.Event.{Event}
-use Rattle.csi_world.specs.Model.World.{World, node_id, empty_world}
-use Rattle.csi_world.specs.Model.After.{Occurred, Run, occurs, after_from, after}
-use Rattle.csi_world.specs.Model.Simulated.{WorldParts, ShowsWorld, ShowsRun, AreNodesShown}
-use Rattle.csi_world.specs.Private.Simulating.{IsLogged, IsRun, new_node_parts}
-use Rattle.csi_world.specs.Public.Simulating.{has_same_id}
 use Rattle.csi_world.proofs.SystemNodes.{new-shown, new-apart}
 
 -- one event more

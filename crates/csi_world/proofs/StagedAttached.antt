@@ -1,28 +1,15 @@
 -- What stands staged at a node, or may still come to: while anything does, the volume is known to be attached there, in
 -- that capability.
-use Rattle.std.proofs.Common.{◌≡◌, ◌⊎◌, ℕ, List, ◌∷◌, Bool, true, false, cond, Option, Some, ◌==◌, refl, sym, ◌∙◌, ap, subst, inl, inr, ⊎_elim}
-use Rattle.std.proofs.lemmas.Bool.{and_parts, and_from, or_right, eqb-true, eq-eqb, false≢true, false_from_ne_true}
-use Rattle.std.proofs.lemmas.Option.{none-some}
-use Rattle.csi_types.specs.declared.capability.Capability.{Capability}
-use Rattle.csi_types.specs.declared.call.Call.{Call}
+use Rattle.csi_world.proofs.Words.{◌≡◌, ◌⊎◌, ℕ, List, ◌∷◌, Bool, true, false, cond, Option, Some, ◌==◌, refl, sym, ◌∙◌}
+use Rattle.csi_world.proofs.Words.{ap, subst, inl, inr, ⊎_elim, Capability, Call, Kind, Party, Controller, Node, Reply}
+use Rattle.csi_world.proofs.Words.{PluginView, PluginThing, Attached, Staged, StagedAs, asked, IsAmong, same_text}
+use Rattle.csi_world.proofs.Words.{Issued, Item, Sent, issued_in, is_success_of, has_success, held, Number, Frame}
+use Rattle.csi_world.proofs.Lemmas.{and_parts, and_from, or_right, eqb-true, eq-eqb, false≢true, false_from_ne_true}
+use Rattle.csi_world.proofs.Lemmas.{none-some, same_text-tells}
 use Rattle.csi_types.specs.declared.call.Call.TheVariants as calls
-use Rattle.csi_types.specs.declared.call.Kind.{Kind}
-use Rattle.csi_types.specs.declared.call.Party.{Party}
-use Rattle.csi_types.specs.declared.call.Party.TheVariants.{Controller, Node}
-use Rattle.csi_types.specs.declared.reply.Reply.{Reply}
-use Rattle.csi_fence.specs.Public.Delivery.{PluginView}
-use Rattle.csi_types.specs.Public.PluginThing.{PluginThing, Attached, Staged, StagedAs, asked}
-use Rattle.csi_lists.specs.Model.Members.{IsAmong}
-use Rattle.csi_types.specs.Model.Same.{same_text}
-use Rattle.csi_types.proofs.Equality.{same_text-tells}
-use Rattle.csi_orchestrator.specs.Model.Thing.{Issued}
-use Rattle.csi_orchestrator.specs.Model.History.{Item, Sent}
-use Rattle.csi_orchestrator.specs.Model.Readings.{issued_in, is_success_of, has_success, held}
 use Rattle.csi_world.proofs.CallThings.{plugin_thing_at, is_plugin_thing, is_of}
 use Rattle.csi_world.proofs.Lifetimes.{latest}
 use Rattle.csi_world.proofs.RepliesTold.{IsEffect, IsSameThing, IsOver, AreEnding}
-use Rattle.csi_types.specs.declared.number.Number.{Number}
-use Rattle.csi_types.specs.Model.Frame.{Frame}
 
 -- a NodeStageVolume that was sent
 abbrev pub staging : List ℕ → Number → ℕ → List ℕ → Capability → Issued

@@ -1,27 +1,15 @@
 -- The world after a call came to its plugin, and after a plugin restarted.
-use Rattle.std.proofs.Common.{◌≡◌, ◌+◌, ℕ, List, [], ◌++◌, length, get_or, set, find, false, Option, Some, None, option_map, position, refl, sym, ◌∙◌, ap, subst}
-use Rattle.std.proofs.lemmas.List.{append-nil}
-use Rattle.std.specs.Option.{option_to_list}
-use Rattle.csi_lists.specs.Public.Places.{FirstAt}
-use Rattle.csi_lists.proofs.Places.{FirstAt-position, FirstAt-passes}
-use Rattle.csi_node.specs.Model.State.{NodeState}
-use Rattle.csi_lists.proofs.Searches.{find-no_place}
-use Rattle.csi_types.specs.declared.call.Party.TheVariants.{Node}
-use Rattle.csi_types.specs.Model.Frame.{Frame}
-use Rattle.csi_types.proofs.Equality.{same_text-tells}
-use Rattle.csi_node.specs.Model.Record.{NodeParts}
+use Rattle.csi_world.proofs.Words.{◌≡◌, ◌+◌, ℕ, List, [], ◌++◌, length, get_or, set, find, false, Option, Some, None}
+use Rattle.csi_world.proofs.Words.{option_map, position, refl, sym, ◌∙◌, ap, subst, option_to_list, FirstAt, NodeState}
+use Rattle.csi_world.proofs.Words.{Node, Frame, NodeParts, Fenced, Outcome, NodeAt, World, node_state, with_frame}
+use Rattle.csi_world.proofs.Words.{with_node, answered_by_plugin, answered_by, answered_by_node, Occurred, next_frame}
+use Rattle.csi_world.proofs.Words.{called_at, called, restarted_at, WorldParts, AreNodesShown, ShowsWorld, IsReplySent}
+use Rattle.csi_world.proofs.Words.{NodeDoes, IsSameNode, IsWorldAfter, IsSoundWorld, has_same_id, ShowsNode}
+use Rattle.csi_world.proofs.Words.{AreDistinctTexts}
+use Rattle.csi_world.proofs.Lemmas.{append-nil, FirstAt-position, FirstAt-passes, find-no_place, same_text-tells}
 use Rattle.csi_node.specs.Model.Record.{Shows as NodeShows}
-use Rattle.csi_fence.specs.Model.Fenced.{Fenced}
 use Rattle.csi_node.specs.Model.Fenced as node
-use Rattle.csi_world.specs.declared.outcomes.Outcome.{Outcome}
 use Rattle.csi_world.specs.declared.outcomes.Outcome.TheVariants as outcomes
-use Rattle.csi_world.specs.Model.World.{NodeAt, World, node_state, with_frame, with_node}
-use Rattle.csi_world.specs.Model.Step.{answered_by_plugin, answered_by, answered_by_node}
-use Rattle.csi_world.specs.Model.After.{Occurred, next_frame, called_at, called, restarted_at}
-use Rattle.csi_world.specs.Model.Simulated.{WorldParts, AreNodesShown, ShowsWorld}
-use Rattle.csi_world.specs.Private.Simulating.{IsReplySent, NodeDoes, IsSameNode, IsWorldAfter}
-use Rattle.csi_world.specs.Public.Simulating.{IsSoundWorld, has_same_id, ShowsNode}
-use Rattle.csi_world.specs.Private.Listed.{AreDistinctTexts}
 use Rattle.csi_world.proofs.SystemNodes.{is_shown_node, is_node, node-shown, state-shown, same-put, ids-put, state-put, apart-texts, texts-apart}
 
 -- a frame that is sent, if there is one, is appended

@@ -1,28 +1,15 @@
 -- The world after the controller got a configuration, after a node joined, and after one was lost.
-use Rattle.std.proofs.Common.{◌≡◌, ℕ, zero, suc, List, [], ◌∷◌, ◌++◌, get_or, filter, not, true, false, cond, is_some, Option, Some, None, position, ◌||◌, Result, Ok, Err, refl, sym, ap, subst}
-use Rattle.std.specs.List.{list_any, remove}
-use Rattle.csi_lists.specs.Public.Places.{FirstAt}
-use Rattle.csi_lists.proofs.Places.{FirstAt-position}
-use Rattle.csi_lists.proofs.Searches.{find-no_place}
-use Rattle.csi_types.specs.Model.Config.{Config}
-use Rattle.csi_types.specs.Public.Config.{config_fault}
-use Rattle.csi_types.specs.Model.Same.{same_text}
-use Rattle.csi_node.specs.Model.Record.{NodeParts}
-use Rattle.csi_controller.specs.Model.Core.{ControllerParts}
-use Rattle.csi_orchestrator.specs.declared.fault.OrchFault.{OrchFault}
-use Rattle.csi_orchestrator.specs.Model.Readings.{last_number}
-use Rattle.csi_orchestrator.specs.Model.WellFormed.{IsWellFormed}
-use Rattle.csi_orchestrator.specs.Model.Moves.{Moved, GivenUp, Loses, moves}
-use Rattle.csi_orchestrator.specs.Public.Laws.{MovesKeepForm}
-use Rattle.csi_orchestrator.specs.Public.Moves.{moved_to}
-use Rattle.csi_orchestrator.specs.Public.Promises.{FollowsUnrefused}
-use Rattle.csi_orchestrator.specs.Model.Shown.{Shows as OrchestratorShows, OrchestratorParts}
+use Rattle.csi_world.proofs.Words.{◌≡◌, ℕ, zero, suc, List, [], ◌∷◌, ◌++◌, get_or, filter, not, true, false, cond}
+use Rattle.csi_world.proofs.Words.{is_some, Option, Some, None, position, ◌||◌, Result, Ok, Err, refl, sym, ap, subst}
+use Rattle.csi_world.proofs.Words.{list_any, remove, FirstAt, Config, config_fault, same_text, NodeParts}
+use Rattle.csi_world.proofs.Words.{ControllerParts, OrchFault, last_number, IsWellFormed, Moved, GivenUp, moves}
+use Rattle.csi_world.proofs.Words.{MovesKeepForm, moved_to, FollowsUnrefused, OrchestratorParts, NodeAt, World}
+use Rattle.csi_world.proofs.Words.{node_state, Occurred, joined_at, lost_by, is_node_of, lost, WorldParts}
+use Rattle.csi_world.proofs.Words.{AreNodesShown, ShowsWorld, IsSameController, new_node_parts, IsWorldAfter}
+use Rattle.csi_world.proofs.Words.{IsSoundWorld, has_same_id}
+use Rattle.csi_world.proofs.Lemmas.{FirstAt-position, find-no_place}
+use Rattle.csi_orchestrator.specs.Model.Moves.{Loses}
 use Rattle.csi_world.specs.declared.outcomes.Outcome.TheVariants as outcomes
-use Rattle.csi_world.specs.Model.World.{NodeAt, World, node_state}
-use Rattle.csi_world.specs.Model.After.{Occurred, joined_at, lost_by, is_node_of, lost}
-use Rattle.csi_world.specs.Model.Simulated.{WorldParts, AreNodesShown, ShowsWorld}
-use Rattle.csi_world.specs.Private.Simulating.{IsSameController, new_node_parts, IsWorldAfter}
-use Rattle.csi_world.specs.Public.Simulating.{IsSoundWorld, has_same_id}
 use Rattle.csi_world.proofs.SystemCalls.{at-world, isnt-there}
 use Rattle.csi_world.proofs.SystemNodes.{is_shown_node, state-shown, joined-shown, joined-apart, lost-shown, lost-apart, none-taken_of, apart-texts}
 
@@ -125,22 +112,6 @@ gives-up law shown id new nodes world own shows left done = by (moves world.hist
           };
           came = refl;
         }
-
--- it refuses to
-pub gives-not_up : (shown : WorldParts) (id : List ℕ) (new : OrchestratorParts) (fault : OrchFault) (world : World) → IsSoundWorld shown → ShowsWorld shown world → new ≡ shown.orchestrator → moves world.history (Loses id) ≡ Err fault
-    → IsWorldAfter shown (record shown { orchestrator = new }) (outcomes.Refused fault) (lost_by world id (moves world.history (Loses id)))
-gives-not_up shown id new fault world own shows same is =
-    at-world shown (record shown { orchestrator = new }) (outcomes.Refused fault) (lost_by world id (moves world.history (Loses id))) world refl (record { apart = own.apart; fit = own.fit })
-    (record {
-      config = shows.config;
-      frames = shows.frames;
-      controller = shows.controller;
-      nodes = shows.nodes;
-      orchestrator = subst (λ (p : OrchestratorParts). OrchestratorShows p world.history) (sym same) shows.orchestrator;
-      form = shows.form;
-      own_config = shows.own_config;
-    })
-    (ap (lost_by world id) is)
 
 -- a node is there where one of its id is shown
 there-shown : (shown : WorldParts) (id : List ℕ) (world : World) → ShowsWorld shown world → (o : Option ℕ) → position (is_shown_node id) shown.nodes ≡ o → is_some (node_state id world) ≡ is_some o

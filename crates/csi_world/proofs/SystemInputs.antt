@@ -1,22 +1,12 @@
 -- The world after an input of the orchestrator, by what its calls promise.
-use Rattle.std.proofs.Common.{◌≡◌, List, Result, Ok, Err, IfOk, IfErr, OnErr, refl, sym, ◌∙◌, ap, subst}
+use Rattle.csi_world.proofs.Words.{◌≡◌, List, Result, Ok, Err, IfOk, IfErr, OnErr, refl, sym, ◌∙◌, ap, subst, Frame}
+use Rattle.csi_world.proofs.Words.{OrchFault, History, IsWellFormed, Input, Answer, Moved, moves, moved_to}
+use Rattle.csi_world.proofs.Words.{MovesKeepForm, FollowsUnrefused, IsRefusal, OrchestratorParts, Outcome, World}
+use Rattle.csi_world.proofs.Words.{with_history, Occurred, by_answer, by_result, orchestrated, WorldParts, IsPosted}
+use Rattle.csi_world.proofs.Words.{IsInputRefused, IsInputSettled, IsWorldAfter, Does}
 use Rattle.std.proofs.lemmas.Result.{IfOk-weaker}
-use Rattle.csi_types.specs.Model.Frame.{Frame}
-use Rattle.csi_orchestrator.specs.declared.fault.OrchFault.{OrchFault}
-use Rattle.csi_orchestrator.specs.Model.History.{History}
-use Rattle.csi_orchestrator.specs.Model.WellFormed.{IsWellFormed}
-use Rattle.csi_orchestrator.specs.Model.Moves.{Input, Answer, Moved, moves}
-use Rattle.csi_orchestrator.specs.Public.Moves.{moved_to}
-use Rattle.csi_orchestrator.specs.Public.Laws.{MovesKeepForm}
-use Rattle.csi_orchestrator.specs.Public.Promises.{FollowsUnrefused}
-use Rattle.csi_orchestrator.specs.Public.RowMoves.{IsRefusal}
-use Rattle.csi_orchestrator.specs.Model.Shown.{Shows as OrchestratorShows, OrchestratorParts}
-use Rattle.csi_world.specs.declared.outcomes.Outcome.{Outcome}
+use Rattle.csi_orchestrator.specs.Model.Shown.{Shows as OrchestratorShows}
 use Rattle.csi_world.specs.declared.outcomes.Outcome.TheVariants as outcomes
-use Rattle.csi_world.specs.Model.World.{World, with_history}
-use Rattle.csi_world.specs.Model.After.{Occurred, by_answer, by_result, orchestrated}
-use Rattle.csi_world.specs.Model.Simulated.{WorldParts}
-use Rattle.csi_world.specs.Private.Simulating.{IsPosted, IsInputRefused, IsInputSettled, IsWorldAfter, Does}
 use Rattle.csi_world.proofs.SystemCalls.{at-world}
 
 -- the world after the orchestrator's move

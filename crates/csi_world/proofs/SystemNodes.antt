@@ -1,30 +1,16 @@
 -- The nodes of a world: the one of an id, where it stands, and what follows where another is put there.
-use Rattle.std.proofs.Common.{◌≡◌, ℕ, zero, suc, Bool, true, false, cond, not, List, [], ◌∷◌, ◌++◌, length, map, filter, take, drop, Option, Some, None, find, option_map, nat_lt, refl, sym, ◌∙◌, ap, subst, inr, ⊎_elim}
-use Rattle.std.proofs.Common.{set}
-use Rattle.std.specs.List.{list_any, remove}
-use Rattle.std.proofs.lemmas.Bool.{or_parts, false≢true}
-use Rattle.std.proofs.lemmas.List.{take-append-drop}
-use Rattle.csi_lists.specs.Model.Members.{IsAmong}
-use Rattle.csi_lists.specs.Public.Places.{FirstAt}
-use Rattle.csi_lists.proofs.Members.{among-append, among-either, among-joined, among-right, none_passes}
-use Rattle.csi_lists.proofs.Options.{some_is_not_none}
-use Rattle.csi_lists.proofs.Places.{FirstAt-find}
-use Rattle.csi_lists.proofs.Searches.{find-missed}
-use Rattle.csi_lists.proofs.Tests.{alike, any-of_map, any-none, none-among}
+use Rattle.csi_world.proofs.Words.{◌≡◌, ℕ, zero, suc, Bool, true, false, cond, not, List, [], ◌∷◌, ◌++◌, length, map}
+use Rattle.csi_world.proofs.Words.{filter, take, drop, Option, Some, None, find, option_map, nat_lt, refl, sym, ◌∙◌, ap}
+use Rattle.csi_world.proofs.Words.{subst, inr, ⊎_elim, set, list_any, remove, IsAmong, FirstAt, Config, has_node}
+use Rattle.csi_world.proofs.Words.{is_bad_greatest, has_same_node, has_bad_slots, config_fault, same_text, NodeParts}
+use Rattle.csi_world.proofs.Words.{NodeState, NodeAt, new_node, node_id, with_state, AreNodesShown, IsSameNode}
+use Rattle.csi_world.proofs.Words.{new_node_parts, has_same_id, ShowsNode, AreDistinctTexts}
+use Rattle.csi_world.proofs.Lemmas.{or_parts, false≢true, take-append-drop, among-append, among-either, among-joined}
+use Rattle.csi_world.proofs.Lemmas.{among-right, none_passes, some_is_not_none, FirstAt-find, find-missed, alike}
+use Rattle.csi_world.proofs.Lemmas.{any-of_map, any-none, none-among, same_text-tells}
 use Rattle.csi_types.specs.declared.config.NodeSlots.{NodeSlots}
 use Rattle.csi_types.specs.declared.config.ConfigFault.TheVariants.{BadGreatest, TooManyNodes, SameNode, BadSlots}
-use Rattle.csi_types.specs.Model.Config.{Config, has_node}
-use Rattle.csi_types.specs.Public.Config.{is_bad_greatest, has_same_node, has_bad_slots, config_fault}
-use Rattle.csi_types.specs.Model.Same.{same_text}
-use Rattle.csi_types.proofs.Equality.{same_text-tells}
-use Rattle.csi_node.specs.Model.Record.{NodeParts}
 use Rattle.csi_node.specs.Model.Record.{Shows as NodeShows}
-use Rattle.csi_node.specs.Model.State.{NodeState}
-use Rattle.csi_world.specs.Model.World.{NodeAt, new_node, node_id, with_state}
-use Rattle.csi_world.specs.Model.Simulated.{AreNodesShown}
-use Rattle.csi_world.specs.Private.Simulating.{IsSameNode, new_node_parts}
-use Rattle.csi_world.specs.Public.Simulating.{has_same_id, ShowsNode}
-use Rattle.csi_world.specs.Private.Listed.{AreDistinctTexts}
 
 -- is this node the one of the id
 abbrev pub is_shown_node : List ℕ → NodeParts → Bool

@@ -1,32 +1,21 @@
 -- What is listed of the plugins is what holds in the world of which it is the list.
-use Rattle.std.proofs.Common.{◌≡◌, ◌⊎◌, ℕ, List, [], ◌∷◌, map, Bool, true, false, cond, Option, Some, None, option_map, find, filter, is_some, ◌==◌, ◌&&◌, refl, sym, ◌∙◌, ap, subst, inl, inr, ⊎_elim}
-use Rattle.std.specs.List.{list_any, flat_map}
-use Rattle.std.proofs.lemmas.Bool.{and_parts, and_from, eqb-true, eq-eqb, false≢true}
-use Rattle.std.proofs.lemmas.Option.{none-some}
-use Rattle.csi_types.specs.declared.holding.Holding.{Holding}
-use Rattle.csi_lists.specs.Model.Members.{IsAmong}
-use Rattle.csi_lists.proofs.Members.{among-append, among-filter, among-find, in_filter, among-joined, among-one, among-flat, in-flat, among-right, among-map, in-map, among-by_key}
-use Rattle.csi_lists.proofs.Searches.{find-passes, find-of_map}
-use Rattle.csi_types.specs.Model.Same.{same_text}
-use Rattle.csi_types.proofs.Equality.{same_text-tells}
-use Rattle.csi_controller.specs.declared.row.ControllerRow.{ControllerRow}
-use Rattle.csi_controller.specs.declared.row.NodeHolding.{NodeHolding}
-use Rattle.csi_lists.specs.Public.Places.{AtMostOne}
-use Rattle.csi_lists.proofs.Tests.{any-then, then-any, any-of_map, any-find}
-use Rattle.csi_lists.proofs.Options.{is_some-map}
-use Rattle.csi_controller.specs.Model.Shown.{volume_of_row, holdings_in_row, holdings_in}
-use Rattle.csi_controller.specs.Model.State.{Volume, volume_named, is_held_at}
-use Rattle.csi_controller.proofs.Sound.{rising-one}
+use Rattle.csi_world.proofs.Words.{◌≡◌, ◌⊎◌, ℕ, List, [], ◌∷◌, map, Bool, true, false, cond, Option, Some, None}
+use Rattle.csi_world.proofs.Words.{option_map, find, filter, is_some, ◌==◌, ◌&&◌, refl, sym, ◌∙◌, ap, subst, inl, inr}
+use Rattle.csi_world.proofs.Words.{⊎_elim, list_any, flat_map, Holding, IsAmong, same_text, ControllerRow, NodeHolding}
+use Rattle.csi_world.proofs.Words.{AtMostOne, volume_of_row, holdings_in_row, holdings_in, Volume, volume_named}
+use Rattle.csi_world.proofs.Words.{is_held_at, StagedVolume, PublishedVolume, NodeState, is_published_at, staged_shown}
+use Rattle.csi_world.proofs.Words.{published_shown, Thing, NodeLists, NodeAt, World, node_state, holds, holds_attached}
+use Rattle.csi_world.proofs.Words.{holds_staged, holds_published, AreRowsApart, Lists, node_listed, IsNodeAlike}
+use Rattle.csi_world.proofs.Words.{IsListed, controller_row_with_id, exists_thing, attached_thing, things_of}
+use Rattle.csi_world.proofs.Words.{staged_things, staged_thing, published_things, published_thing, things_at}
+use Rattle.csi_world.proofs.Words.{things_listed}
+use Rattle.csi_world.proofs.Lemmas.{and_parts, and_from, eqb-true, eq-eqb, false≢true, none-some, among-append}
+use Rattle.csi_world.proofs.Lemmas.{among-filter, among-find, in_filter, among-joined, among-one, among-flat, in-flat}
+use Rattle.csi_world.proofs.Lemmas.{among-right, among-map, in-map, among-by_key, find-passes, find-of_map}
+use Rattle.csi_world.proofs.Lemmas.{same_text-tells, any-then, then-any, any-of_map, any-find, is_some-map, rising-one}
 use Rattle.csi_node.specs.declared.entries.Staged.{Staged as StagedEntry}
 use Rattle.csi_node.specs.declared.entries.Published.{Published as PublishedEntry}
-use Rattle.csi_node.specs.Model.State.{StagedVolume, PublishedVolume, NodeState, is_published_at}
-use Rattle.csi_node.specs.Public.Views.{staged_shown, published_shown}
-use Rattle.csi_orchestrator.specs.declared.thing.Thing.{Thing}
 use Rattle.csi_orchestrator.specs.declared.thing.Thing.TheVariants.{Exists, Attached, Staged, Published}
-use Rattle.csi_world.specs.declared.auditing.lists.NodeLists.{NodeLists}
-use Rattle.csi_world.specs.Model.World.{NodeAt, World, node_state}
-use Rattle.csi_world.specs.Model.Safe.{holds, holds_attached, holds_staged, holds_published}
-use Rattle.csi_world.specs.Private.Listed.{AreRowsApart, Lists, node_listed, IsNodeAlike, IsListed, controller_row_with_id, exists_thing, attached_thing, things_of, staged_things, staged_thing, published_things, published_thing, things_at, things_listed}
 use Rattle.csi_world.proofs.PartsSafe.{held_of}
 use Rattle.csi_world.proofs.ListedNodes.{listed-of, node-of, node-found-by-id}
 

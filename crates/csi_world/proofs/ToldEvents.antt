@@ -1,14 +1,7 @@
 -- Events that are told one by one.
-use Rattle.std.proofs.Common.{◌≡◌, ℕ, suc, ◌+◌, List, [], ◌∷◌, ◌++◌, refl, sym, ◌∙◌, ap, subst, append-nil, append_assoc, arith}
-use Rattle.csi_types.specs.declared.event.Event.{Event}
-use Rattle.csi_types.specs.declared.event.Event.TheVariants.{Timeout, Deliver}
-use Rattle.csi_types.specs.Model.Config.{Config}
-use Rattle.csi_world.specs.Model.World.{World, empty_world}
-use Rattle.csi_world.specs.Model.After.{Run, occurs, after_from, after}
-use Rattle.csi_world.specs.Public.Settling.{spelled, spelled_from, spelled_out}
-use Rattle.csi_world.specs.Model.Simulated.{WorldParts}
-use Rattle.csi_world.specs.Private.Simulating.{IsRun}
-use Rattle.csi_world.specs.Private.Telling.{IsAt, counted_events}
+use Rattle.csi_world.proofs.Words.{◌≡◌, ℕ, suc, ◌+◌, List, [], ◌∷◌, ◌++◌, sym, ◌∙◌, ap, subst, append-nil, append_assoc}
+use Rattle.csi_world.proofs.Words.{arith, Event, Timeout, Deliver, Config, World, empty_world, Run, occurs, after_from}
+use Rattle.csi_world.proofs.Words.{after, spelled, spelled_from, spelled_out, WorldParts, IsRun, IsAt, counted_events}
 use Rattle.csi_world.proofs.SimulatedRuns.{after-more}
 use Rattle.csi_world.proofs.SettledWorlds.{counted-more, all-spelled}
 
@@ -17,10 +10,6 @@ pub record HasTold (old : List Event) (name : List ℕ) (first number : ℕ) (ne
   pub count : ℕ
   pub numbered : number ≡ suc count
   pub told : new ≡ old ++ counted_events name first (suc count)
-
--- at first
-pub told-timeout : (old new : List Event) (event : Event) (name : List ℕ) (first : ℕ) → event ≡ Timeout name → new ≡ old ++ event ∷ [] → HasTold old name first 1 new
-told-timeout old new event name first is told = record { count = 0; numbered = refl; told = told ∙ ap (λ e. old ++ e ∷ []) is }
 
 -- one more
 pub told-more : (old mid new : List Event) (name : List ℕ) (first number : ℕ) → new ≡ mid ++ Deliver (first + number) ∷ [] → HasTold old name first number mid → HasTold old name first (number + 1) new
@@ -34,10 +23,6 @@ told-more old mid new name first number told has =
           ∙ append_assoc old (counted_events name first (suc has.count)) (Deliver (suc (first + has.count)) ∷ [])
           ∙ ap (λ es. old ++ Timeout name ∷ es) (sym (counted-more first has.count));
     }
-
--- all of them
-pub told-all : (old new : List Event) (name : List ℕ) (first number count : ℕ) → number ≡ count → HasTold old name first number new → new ≡ old ++ counted_events name first count
-told-all old new name first number count all has = has.told ∙ ap (λ n. old ++ counted_events name first n) (sym has.numbered ∙ all)
 
 -- ---- of a run
 

@@ -1,33 +1,18 @@
 -- A call that undoes something is answered 0, once it was sent under a new number.
-use Rattle.std.proofs.Common.{◌≡◌, ℕ, List, [], ◌∷◌, filter, true, false, cond, Option, Some, None, option_map, ◌==◌, refl, sym, ◌∙◌, ap, subst, inl}
-use Rattle.std.specs.Prelude.{codes}
-use Rattle.std.proofs.lemmas.Bool.{and_from, false≢true}
-use Rattle.csi_types.specs.declared.holding.Holding.{Holding}
-use Rattle.csi_types.specs.declared.number.Number.{Number}
-use Rattle.csi_types.specs.declared.call.Call.{Call}
+use Rattle.csi_world.proofs.Words.{◌≡◌, ℕ, List, [], ◌∷◌, filter, true, false, cond, Option, Some, None, option_map}
+use Rattle.csi_world.proofs.Words.{◌==◌, refl, sym, ◌∙◌, ap, subst, inl, codes, Holding, Number, Call, Party}
+use Rattle.csi_world.proofs.Words.{Controller, Node, Reply, ResourceExhausted, Exists, Attached, Published, ThingForm}
+use Rattle.csi_world.proofs.Words.{AttachedAs, PublishedAs, same_text, IsAmong, Volume, ControllerState, live_volume}
+use Rattle.csi_world.proofs.Words.{holdings_of, is_held_at, holding_at, NodeState, PublishedVolume, published_of}
+use Rattle.csi_world.proofs.Words.{is_published_at, published_at, Thing, No, Issued, touches, is_doing, Sent, History}
+use Rattle.csi_world.proofs.Words.{with_items, known, IsGuarded, World, node_state}
+use Rattle.csi_world.proofs.Lemmas.{and_from, false≢true, same_text-tells, among-kept, empty-where, none_passes}
+use Rattle.csi_world.proofs.Lemmas.{none-from_map}
 use Rattle.csi_types.specs.declared.call.Call.TheVariants as calls
-use Rattle.csi_types.specs.declared.call.Party.{Party}
-use Rattle.csi_types.specs.declared.call.Party.TheVariants.{Controller, Node}
-use Rattle.csi_types.specs.declared.reply.Reply.{Reply}
-use Rattle.csi_types.specs.declared.status.Status.TheVariants.{Ok, ResourceExhausted}
-use Rattle.csi_types.specs.Public.PluginThing.{Exists, Attached, Published, ThingForm, AttachedAs, PublishedAs}
-use Rattle.csi_types.specs.Model.Same.{same_text}
-use Rattle.csi_types.proofs.Equality.{same_text-tells}
-use Rattle.csi_lists.specs.Model.Members.{IsAmong}
-use Rattle.csi_lists.proofs.Members.{among-kept, empty-where, none_passes}
-use Rattle.csi_lists.proofs.Options.{none-from_map}
-use Rattle.csi_controller.specs.Model.State.{Volume, ControllerState, live_volume, holdings_of, is_held_at, holding_at}
+use Rattle.csi_types.specs.declared.status.Status.TheVariants.{Ok}
 use Rattle.csi_controller.specs.Model.Table as controller_table
-use Rattle.csi_node.specs.Model.State.{NodeState, PublishedVolume, published_of, is_published_at, published_at}
 use Rattle.csi_node.specs.Model.Table as node_table
-use Rattle.csi_orchestrator.specs.declared.thing.Thing.{Thing}
 use Rattle.csi_orchestrator.specs.declared.thing.Thing.TheVariants as things
-use Rattle.csi_orchestrator.specs.declared.thing.Known.TheVariants.{No}
-use Rattle.csi_orchestrator.specs.Model.Thing.{Issued, touches, is_doing}
-use Rattle.csi_orchestrator.specs.Model.History.{Sent, History, with_items}
-use Rattle.csi_orchestrator.specs.Model.Readings.{known}
-use Rattle.csi_orchestrator.specs.Public.Guards.{IsGuarded}
-use Rattle.csi_world.specs.Model.World.{World, node_state}
 use Rattle.csi_world.proofs.CallThings.{IsOwnNow, Attachment, Publication}
 use Rattle.csi_world.proofs.Lifetimes.{calls_since}
 use Rattle.csi_world.proofs.GivenIds.{GivenId, HasNow}

@@ -1,29 +1,14 @@
 -- After a timeout or a reply a volume is at rest, or the call that is due for it was just sent.
-use Rattle.std.proofs.Common.{◌≡◌, ◌⊎◌, ℕ, suc, ◌+◌, ◌^◌, ◌≤◌, List, [], ◌∷◌, length, slice_get, true, Option, Some, None, Ok, refl, sym, ◌∙◌, ap, subst, inl, inr, arith, length-append}
-use Rattle.std.specs.List.{list_any}
-use Rattle.std.specs.Prelude.{is_none, nat_lt}
-use Rattle.std.proofs.lemmas.Bool.Decides.{nat_tests}
-use Rattle.csi_types.specs.declared.number.Number.{Number}
-use Rattle.csi_types.specs.declared.call.Kind.{Kind}
+use Rattle.csi_world.proofs.Words.{◌≡◌, ◌⊎◌, ℕ, suc, ◌+◌, ◌^◌, ◌≤◌, List, [], ◌∷◌, length, slice_get, true, Option}
+use Rattle.csi_world.proofs.Words.{Some, None, Ok, refl, sym, ◌∙◌, ap, subst, inl, inr, arith, length-append, list_any}
+use Rattle.csi_world.proofs.Words.{is_none, nat_lt, Number, Kind, Node, kind_of, Frame, IsBefore, same_text, Issued}
+use Rattle.csi_world.proofs.Words.{Thing, No, Goal, Item, Sent, Noted, History, with_items, goal_of, known, last_number}
+use Rattle.csi_world.proofs.Words.{nodes_of, next_number, Due, due_for, Input, Answer, moves, send_due, sent_as, hears}
+use Rattle.csi_world.proofs.Words.{IsGuarded, AreStepwise, IsStepwise, frame_of, World, with_frame, with_history}
+use Rattle.csi_world.proofs.Words.{by_answer, by_result, orchestrated, is_at_rest, node_in}
+use Rattle.csi_world.proofs.Lemmas.{nat_tests}
 use Rattle.csi_types.specs.declared.call.Kind.TheVariants as kinds
-use Rattle.csi_types.specs.declared.call.Party.TheVariants.{Node}
-use Rattle.csi_types.specs.Model.Call.{kind_of}
-use Rattle.csi_types.specs.Model.Frame.{Frame}
-use Rattle.csi_types.specs.Model.Number.{IsBefore}
-use Rattle.csi_types.specs.Model.Same.{same_text}
-use Rattle.csi_orchestrator.specs.Model.Thing.{Issued}
-use Rattle.csi_orchestrator.specs.declared.thing.Thing.{Thing}
-use Rattle.csi_orchestrator.specs.declared.thing.Known.TheVariants.{No}
-use Rattle.csi_orchestrator.specs.Model.History.{Goal, Item, Sent, Noted, History, with_items}
-use Rattle.csi_orchestrator.specs.Model.Readings.{goal_of, known, last_number, nodes_of}
-use Rattle.csi_orchestrator.specs.Model.Commands.{next_number}
-use Rattle.csi_orchestrator.specs.Model.Due.{Due, due_for}
-use Rattle.csi_orchestrator.specs.Model.Moves.{Input, Answer, Sends, moves, send_due, sent_as, hears}
-use Rattle.csi_orchestrator.specs.Public.Guards.{IsGuarded}
-use Rattle.csi_orchestrator.specs.Public.Steps.{AreStepwise, IsStepwise, frame_of}
-use Rattle.csi_world.specs.Model.World.{World, with_frame, with_history}
-use Rattle.csi_world.specs.Model.After.{by_answer, by_result, orchestrated}
-use Rattle.csi_world.specs.Public.Settling.{is_at_rest, node_in}
+use Rattle.csi_orchestrator.specs.Model.Moves.{Sends}
 use Rattle.csi_world.proofs.DueListed.{due-listed}
 use Rattle.csi_world.proofs.GoalsMet.{IsMet, HasIdIf, met-where-none, noted-met}
 use Rattle.csi_world.proofs.RowsShown.{IsListed}
@@ -64,25 +49,12 @@ IsNext world name place rank goal = ((is_at_rest world name ≡ true) × IsMet w
 -- each call is one at least
 pub rank-one : (kind : Kind) → 1 ≤ rank_of kind
 rank-one kinds.CreateVolume = omega arith
-rank-one kinds.DeleteVolume = omega arith
-rank-one kinds.ControllerPublishVolume = omega arith
-rank-one kinds.ControllerUnpublishVolume = omega arith
-rank-one kinds.NodeStageVolume = omega arith
-rank-one kinds.NodeUnstageVolume = omega arith
-rank-one kinds.NodePublishVolume = omega arith
-rank-one kinds.NodeUnpublishVolume = omega arith
+rank-one kind = omega arith
 
 -- and at most six
 pub rank-most : (kind : Option Kind) → rank_if kind ≤ 6
-rank-most None = omega arith
 rank-most (Some kinds.CreateVolume) = omega arith
-rank-most (Some kinds.DeleteVolume) = omega arith
-rank-most (Some kinds.ControllerPublishVolume) = omega arith
-rank-most (Some kinds.ControllerUnpublishVolume) = omega arith
-rank-most (Some kinds.NodeStageVolume) = omega arith
-rank-most (Some kinds.NodeUnstageVolume) = omega arith
-rank-most (Some kinds.NodePublishVolume) = omega arith
-rank-most (Some kinds.NodeUnpublishVolume) = omega arith
+rank-most kind = omega arith
 
 -- no frame is taken out, and no refusal comes
 pub record AddsCalls (old new : World) : Type 0 where

@@ -1,22 +1,11 @@
 -- Every world to which guarded choices lead is safe.
-use Rattle.std.proofs.Common.{◌≡◌, ℕ, List, Bool, cond, Some, None, option_map, ◌==◌, refl, sym, ◌∙◌, ap, subst, inl}
-use Rattle.std.proofs.lemmas.Bool.{and_parts, eqb-true}
-use Rattle.csi_types.specs.declared.capability.Capability.{Capability}
-use Rattle.csi_types.specs.declared.holding.Holding.{Holding}
-use Rattle.csi_types.specs.Model.Config.{Config}
-use Rattle.csi_types.specs.Public.PluginThing.{AttachedAs, StagedAs, Attached, Staged, asked}
-use Rattle.csi_lists.specs.Model.Members.{IsAmong}
-use Rattle.csi_lists.proofs.Members.{each_of, among-find}
-use Rattle.csi_lists.proofs.Options.{some-from_map}
-use Rattle.csi_lists.proofs.Searches.{find-passes}
-use Rattle.csi_types.specs.Model.Same.{same_text}
-use Rattle.csi_types.proofs.Equality.{same_text-tells}
-use Rattle.csi_controller.specs.Model.State.{is_held_at, holding_at}
-use Rattle.csi_node.specs.Model.State.{NodeState, StagedVolume, staged_of}
-use Rattle.csi_orchestrator.specs.Model.Readings.{issued_in}
-use Rattle.csi_world.specs.Model.World.{NodeAt, World, empty_world}
-use Rattle.csi_world.specs.Public.Step.{Choice, MayChooseAll, chosen_all}
-use Rattle.csi_world.specs.Model.Safe.{IsAttachedAs, IsStagedWhereAttached, Safe}
+use Rattle.csi_world.proofs.Words.{◌≡◌, ℕ, List, Bool, cond, Some, None, option_map, ◌==◌, refl, sym, ◌∙◌, ap, subst}
+use Rattle.csi_world.proofs.Words.{inl, Capability, Holding, Config, AttachedAs, StagedAs, Attached, Staged, asked}
+use Rattle.csi_world.proofs.Words.{IsAmong, same_text, is_held_at, holding_at, NodeState, StagedVolume, staged_of}
+use Rattle.csi_world.proofs.Words.{issued_in, NodeAt, World, empty_world, Choice, MayChooseAll, chosen_all}
+use Rattle.csi_world.proofs.Words.{IsAttachedAs, IsStagedWhereAttached, Safe}
+use Rattle.csi_world.proofs.Lemmas.{and_parts, eqb-true, each_of, among-find, some-from_map, find-passes}
+use Rattle.csi_world.proofs.Lemmas.{same_text-tells}
 use Rattle.csi_world.proofs.WorldView.{node_view, over_at, view_of}
 use Rattle.csi_world.proofs.HeardReplies.{success-ok}
 use Rattle.csi_world.proofs.RecordedRight.{recorded}

@@ -1,19 +1,12 @@
 -- A world seen thing by thing, each thing as the plugin has it to which it belongs; and what a call that one plugin
 -- got does to the whole.
-use Rattle.std.proofs.Common.{◌≡◌, ◌⊎◌, ℕ, List, Bool, true, false, Option, Some, None, IsTrue, refl, sym, subst, inl}
-use Rattle.csi_types.specs.declared.number.Number.{Number}
-use Rattle.csi_types.specs.declared.call.Party.{Party}
-use Rattle.csi_types.specs.declared.call.Party.TheVariants.{Controller, Node}
-use Rattle.csi_fence.specs.Public.Delivery.{PluginView, Delivery, Acts, Rests, Misses, IsSameView, IsClosed, kept_of}
-use Rattle.csi_types.specs.Public.PluginThing.{PluginThing}
-use Rattle.csi_types.specs.Model.Number.{IsBefore}
-use Rattle.csi_types.specs.Model.Same.{same_party}
-use Rattle.csi_types.proofs.Equality.{same_party-tells}
+use Rattle.csi_world.proofs.Words.{◌≡◌, ◌⊎◌, ℕ, List, Bool, true, false, Option, Some, None, IsTrue, refl, sym, subst}
+use Rattle.csi_world.proofs.Words.{inl, Number, Party, Controller, Node, PluginView, Delivery, Acts, Rests, Misses}
+use Rattle.csi_world.proofs.Words.{IsSameView, IsClosed, kept_of, PluginThing, IsBefore, same_party, NodeState, is_over}
+use Rattle.csi_world.proofs.Words.{World, node_state}
+use Rattle.csi_world.proofs.Lemmas.{same_party-tells}
 use Rattle.csi_controller.specs.Public.View as controllers
-use Rattle.csi_node.specs.Model.State.{NodeState}
 use Rattle.csi_node.specs.Public.View as nodes
-use Rattle.csi_fence.specs.Model.Fence.{is_over}
-use Rattle.csi_world.specs.Model.World.{World, node_state}
 pub use Rattle.csi_world.proofs.Parties.{party_of}
 use Rattle.csi_world.proofs.Lifetimes.{over_in, over-before}
 

@@ -1,9 +1,5 @@
 -- This row is so.
-use Rattle.std.proofs.Common.{sym, not}
-use Rattle.csi_orchestrator.specs.declared.thing.Thing.TheVariants.{Attached}
-use Rattle.csi_orchestrator.specs.Model.Shown.{RowShown, mark_of}
-use Rattle.csi_orchestrator.specs.Model.Thing.{is_no}
-use Rattle.csi_orchestrator.specs.Public.Shown.{row_shown}
+use Rattle.csi_orchestrator.proofs.Words.{sym, not, Attached, RowShown, mark_of, is_no, row_shown}
 use Rattle.csi_orchestrator.proofs.EntriesShown.{one-here}
 use Rattle.csi_orchestrator.proofs.beginning.is_used.Goals as goal
 

@@ -1,7 +1,5 @@
 -- At none of the first rows may the volume be attached to the node.
-use Rattle.std.proofs.Common.{◌≡◌, false, map, take}
-use Rattle.csi_orchestrator.specs.Public.Beginning.{is_used_in}
-use Rattle.csi_orchestrator.specs.Public.Shown.{row_shown}
+use Rattle.csi_orchestrator.proofs.Words.{◌≡◌, false, map, take, is_used_in, row_shown}
 use Rattle.csi_orchestrator.proofs.beginning.is_used.Given as goal
 
 abbrev pub invariant-loop-row : goal.invariant-loop-row

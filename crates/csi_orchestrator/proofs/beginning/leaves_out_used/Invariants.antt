@@ -1,7 +1,5 @@
 -- None of the first nodes is left out and used.
-use Rattle.std.proofs.Common.{◌≡◌, false, map, take}
-use Rattle.csi_orchestrator.specs.Public.Beginning.{leaves_out_used}
-use Rattle.csi_orchestrator.specs.Public.Shown.{row_shown}
+use Rattle.csi_orchestrator.proofs.Words.{◌≡◌, false, map, take, leaves_out_used, row_shown}
 use Rattle.csi_orchestrator.proofs.beginning.leaves_out_used.Given as goal
 
 abbrev pub invariant-loop-node : goal.invariant-loop-node

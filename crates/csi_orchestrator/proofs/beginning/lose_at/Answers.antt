@@ -1,6 +1,5 @@
 -- A use there is stopped, and any other goal stays.
-use Rattle.std.proofs.Common.{map, refl, sym, ◌∙◌}
-use Rattle.csi_orchestrator.specs.Public.Shown.{node_entry_shown, row_shown}
+use Rattle.csi_orchestrator.proofs.Words.{map, refl, sym, ◌∙◌, node_entry_shown, row_shown}
 use Rattle.csi_orchestrator.proofs.RowsLost.{stopped-row}
 use Rattle.csi_orchestrator.proofs.beginning.lose_at.Goals as goal
 

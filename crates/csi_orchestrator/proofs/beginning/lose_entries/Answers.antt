@@ -1,9 +1,7 @@
 -- One entry more.
-use Rattle.std.proofs.Common.{◌<◌, ◌∙◌, List, length, ap, sym, subst, arith}
-use Rattle.csi_lists.proofs.Places.{map_over_more-shown}
-use Rattle.csi_orchestrator.specs.declared.row.NodeEntry.{NodeEntry}
-use Rattle.csi_orchestrator.specs.Public.Beginning.{entry_at_loss}
-use Rattle.csi_orchestrator.specs.Public.Shown.{node_entry_shown}
+use Rattle.csi_orchestrator.proofs.Words.{◌<◌, ◌∙◌, List, length, ap, sym, subst, arith, NodeEntry, entry_at_loss}
+use Rattle.csi_orchestrator.proofs.Words.{node_entry_shown}
+use Rattle.csi_orchestrator.proofs.Lemmas.{map_over_more-shown}
 use Rattle.csi_orchestrator.proofs.beginning.lose_entries.Goals as goal
 
 pub loop-entry-preserved : goal.loop-entry-preserved

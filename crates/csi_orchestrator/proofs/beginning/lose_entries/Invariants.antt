@@ -1,7 +1,5 @@
 -- The entries before this one lost the node, and the others are as they were.
-use Rattle.std.proofs.Common.{◌≡◌, ◌++◌, map, take, drop}
-use Rattle.csi_orchestrator.specs.Public.Beginning.{entry_at_loss}
-use Rattle.csi_orchestrator.specs.Public.Shown.{node_entry_shown}
+use Rattle.csi_orchestrator.proofs.Words.{◌≡◌, ◌++◌, map, take, drop, entry_at_loss, node_entry_shown}
 use Rattle.csi_orchestrator.proofs.beginning.lose_entries.Given as goal
 
 abbrev pub invariant-loop-entry : goal.invariant-loop-entry

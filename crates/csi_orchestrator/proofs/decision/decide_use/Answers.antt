@@ -1,13 +1,7 @@
 -- By the entry of the node.
-use Rattle.std.proofs.Common.{◌≡◌, List, map, not, Some, sym, ◌∙◌, ap, rules}
-use Rattle.std.specs.Prelude.{count_by, ◌&&◌}
-use Rattle.csi_types.specs.Model.Same.{same_text}
-use Rattle.csi_orchestrator.specs.declared.row.NodeEntry.{NodeEntry}
-use Rattle.csi_orchestrator.specs.Model.Shown.{NodeEntryShown}
-use Rattle.csi_orchestrator.specs.Model.Thing.{is_no}
-use Rattle.csi_orchestrator.specs.Private.RowRefusals.{others_attached}
-use Rattle.csi_orchestrator.specs.Private.Decisions.{decided_at}
-use Rattle.csi_orchestrator.specs.Public.Shown.{row_shown, node_entry_shown}
+use Rattle.csi_orchestrator.proofs.Words.{◌≡◌, List, map, not, Some, sym, ◌∙◌, ap, rules, count_by, ◌&&◌, same_text}
+use Rattle.csi_orchestrator.proofs.Words.{NodeEntry, NodeEntryShown, is_no, others_attached, decided_at, row_shown}
+use Rattle.csi_orchestrator.proofs.Words.{node_entry_shown}
 use Rattle.csi_orchestrator.proofs.DecisionsTold.{use-decided}
 use Rattle.csi_orchestrator.proofs.decision.decide_use.Goals as goal
 

@@ -1,8 +1,6 @@
 -- The entry stands where the node's is, or last.
-use Rattle.std.proofs.Common.{◌∙◌, ap, map}
-use Rattle.std.proofs.Math.Seq.{map-set_same}
-use Rattle.std.proofs.lemmas.Result.{on_ok_weaker, on_err_weaker}
-use Rattle.csi_orchestrator.specs.Public.Shown.{node_entry_shown}
+use Rattle.csi_orchestrator.proofs.Words.{◌∙◌, ap, map, node_entry_shown}
+use Rattle.csi_orchestrator.proofs.Lemmas.{map-set_same, on_ok_weaker, on_err_weaker}
 use Rattle.csi_orchestrator.proofs.UseEntries.{added-there, added-last}
 use Rattle.csi_orchestrator.proofs.entries.add_node.Goals as goal
 

@@ -1,9 +1,6 @@
 -- The target has an entry where one is found.
-use Rattle.std.proofs.Common.{◌≡◌, ℕ, List, Bool, true, false, cond, [], ◌∷◌, ◌++◌, sym, ◌∙◌, ap, rules}
-use Rattle.std.specs.Prelude.{position, is_some}
-use Rattle.csi_types.specs.Model.Same.{same_text}
-use Rattle.csi_orchestrator.specs.declared.row.TargetEntry.{TargetEntry}
-use Rattle.csi_orchestrator.specs.Private.RowChanges.{new_target_entry}
+use Rattle.csi_orchestrator.proofs.Words.{◌≡◌, ℕ, List, Bool, true, false, cond, [], ◌∷◌, ◌++◌, sym, ◌∙◌, ap, rules}
+use Rattle.csi_orchestrator.proofs.Words.{position, is_some, same_text, TargetEntry, new_target_entry}
 use Rattle.csi_orchestrator.proofs.ChangedEntries.{placed-found}
 use Rattle.csi_orchestrator.proofs.entries.add_target.Goals as goal
 

@@ -1,12 +1,8 @@
 -- One entry more is tidied.
-use Rattle.std.proofs.Common.{◌<◌, ◌∙◌, List, length, get_or, subst, ap, sym, rules, arith}
-use Rattle.std.proofs.lemmas.Fn.{filter_same}
-use Rattle.csi_lists.proofs.Places.{map_over_more-shown}
-use Rattle.csi_orchestrator.specs.declared.row.NodeEntry.{NodeEntry}
-use Rattle.csi_orchestrator.specs.declared.row.TargetEntry.{TargetEntry}
-use Rattle.csi_orchestrator.specs.Model.Shown.{NodeEntryShown}
-use Rattle.csi_orchestrator.specs.Public.Shown.{node_entry_shown}
-use Rattle.csi_orchestrator.specs.Private.RowChanges.{is_target_kept, with_kept_targets}
+use Rattle.csi_orchestrator.proofs.Words.{◌<◌, ◌∙◌, List, length, get_or, subst, ap, sym, rules, arith, NodeEntry}
+use Rattle.csi_orchestrator.proofs.Words.{TargetEntry, NodeEntryShown, node_entry_shown, is_target_kept}
+use Rattle.csi_orchestrator.proofs.Words.{with_kept_targets}
+use Rattle.csi_orchestrator.proofs.Lemmas.{filter_same, map_over_more-shown}
 use Rattle.csi_orchestrator.proofs.entries.keep_targets.Goals as goal
 
 pub loop-entry-preserved : goal.loop-entry-preserved

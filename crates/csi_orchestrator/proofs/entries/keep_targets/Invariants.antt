@@ -1,7 +1,5 @@
 -- The entries before this one are tidied, and the others are as they were.
-use Rattle.std.proofs.Common.{◌≡◌, ◌++◌, map, take, drop}
-use Rattle.csi_orchestrator.specs.Public.Shown.{node_entry_shown}
-use Rattle.csi_orchestrator.specs.Private.RowChanges.{with_kept_targets}
+use Rattle.csi_orchestrator.proofs.Words.{◌≡◌, ◌++◌, map, take, drop, node_entry_shown, with_kept_targets}
 use Rattle.csi_orchestrator.proofs.entries.keep_targets.Given as goal
 
 abbrev pub invariant-loop-entry : goal.invariant-loop-entry

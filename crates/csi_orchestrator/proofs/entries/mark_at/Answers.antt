@@ -1,7 +1,5 @@
 -- The first entry of the node is changed.
-use Rattle.csi_orchestrator.specs.Private.RowChanges.{aspect_of, node_marked}
-use Rattle.csi_orchestrator.specs.Model.Shown.{NodeEntryShown}
-use Rattle.csi_orchestrator.specs.Public.Shown.{node_entry_shown}
+use Rattle.csi_orchestrator.proofs.Words.{aspect_of, node_marked, NodeEntryShown, node_entry_shown}
 use Rattle.csi_orchestrator.proofs.ChangedEntries.{change-place, change-none_placed}
 use Rattle.csi_orchestrator.proofs.entries.mark_at.Goals as goal
 

@@ -1,8 +1,6 @@
 -- The first entry of the target is changed.
-use Rattle.std.proofs.Common.{refl, sym, ◌∙◌, ap}
-use Rattle.std.proofs.lemmas.List.{map-id}
-use Rattle.csi_orchestrator.specs.declared.row.TargetEntry.{TargetEntry}
-use Rattle.csi_orchestrator.specs.Private.RowChanges.{target_marked}
+use Rattle.csi_orchestrator.proofs.Words.{refl, sym, ◌∙◌, ap, TargetEntry, target_marked}
+use Rattle.csi_orchestrator.proofs.Lemmas.{map-id}
 use Rattle.csi_orchestrator.proofs.ChangedEntries.{change-place, change-none_placed}
 use Rattle.csi_orchestrator.proofs.entries.mark_target.Goals as goal
 

@@ -1,7 +1,5 @@
 -- The first one of it, or none.
-use Rattle.std.proofs.Common.{arith}
-use Rattle.csi_types.specs.Model.Same.{same_text}
-use Rattle.csi_orchestrator.specs.declared.row.NodeEntry.{NodeEntry}
+use Rattle.csi_orchestrator.proofs.Words.{arith, same_text, NodeEntry}
 use Rattle.csi_orchestrator.proofs.EntriesShown.{placed-here, placed-nowhere}
 use Rattle.csi_orchestrator.proofs.entries.node_index.Goals as goal
 

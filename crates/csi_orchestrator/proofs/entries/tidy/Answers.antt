@@ -1,9 +1,6 @@
-use Rattle.std.proofs.Common.{◌≡◌, ◌∙◌, map, filter, ap, sym, rules}
-use Rattle.std.proofs.lemmas.Fn.{filter_same}
-use Rattle.csi_lists.proofs.Filters.{filter-of_map}
-use Rattle.csi_orchestrator.specs.declared.row.NodeEntry.{NodeEntry}
-use Rattle.csi_orchestrator.specs.Public.Shown.{node_entry_shown}
-use Rattle.csi_orchestrator.specs.Private.RowChanges.{is_node_kept}
+use Rattle.csi_orchestrator.proofs.Words.{◌≡◌, ◌∙◌, map, filter, ap, sym, rules, NodeEntry, node_entry_shown}
+use Rattle.csi_orchestrator.proofs.Words.{is_node_kept}
+use Rattle.csi_orchestrator.proofs.Lemmas.{filter_same, filter-of_map}
 use Rattle.csi_orchestrator.proofs.entries.tidy.Goals as goal
 
 pub returns : goal.returns

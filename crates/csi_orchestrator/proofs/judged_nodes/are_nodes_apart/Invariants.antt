@@ -1,6 +1,5 @@
 -- What is left passes exactly where the whole list does.
-use Rattle.std.proofs.Common.{◌≡◌, drop}
-use Rattle.csi_orchestrator.specs.Private.Judging.{are_nodes_apart}
+use Rattle.csi_orchestrator.proofs.Words.{◌≡◌, drop, are_nodes_apart}
 use Rattle.csi_orchestrator.proofs.judged_nodes.are_nodes_apart.Given as goal
 
 abbrev pub invariant-loop-place : goal.invariant-loop-place

@@ -1,8 +1,7 @@
 -- The set has the name, and what it had.
-use Rattle.std.proofs.Common.{rules, ◌≡◌, ◌∙◌, ℕ, List, Bool, true, false, cond, refl, ap, ◌||◌, nat_cmp, bytes_eq}
+use Rattle.csi_orchestrator.proofs.Words.{rules, ◌≡◌, ◌∙◌, ℕ, List, Bool, true, false, cond, refl, ap, ◌||◌, nat_cmp}
+use Rattle.csi_orchestrator.proofs.Words.{bytes_eq, contains_by, slice_cmp}
 use Rattle.std.specs.Borrow.{Bor}
-use Rattle.std.specs.BTreeSet.{contains_by}
-use Rattle.std.specs.Cmp.Lexicographic.{slice_cmp}
 use Rattle.std.proofs.lemmas.Map.Text.{is_eq-slice_cmp}
 use Rattle.csi_orchestrator.proofs.judged_rows.add_name.Goals as goal
 

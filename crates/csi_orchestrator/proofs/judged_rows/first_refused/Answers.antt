@@ -1,9 +1,7 @@
 -- What is found at a row, and how the walk goes on.
-use Rattle.std.proofs.Common.{◌≡◌, ◌∙◌, ℕ, List, Bool, true, false, sym, subst, arith, ◌||◌, nat_cmp}
-use Rattle.std.specs.BTreeSet.{contains_by}
-use Rattle.std.specs.Cmp.Lexicographic.{slice_cmp}
-use Rattle.std.proofs.lemmas.Bool.{not-false, not-true}
-use Rattle.csi_types.specs.Model.Same.{same_text}
+use Rattle.csi_orchestrator.proofs.Words.{◌≡◌, ◌∙◌, ℕ, List, Bool, true, false, sym, subst, arith, ◌||◌, nat_cmp}
+use Rattle.csi_orchestrator.proofs.Words.{contains_by, slice_cmp, same_text}
+use Rattle.csi_orchestrator.proofs.Lemmas.{not-false, not-true}
 use Rattle.csi_orchestrator.proofs.FirstRefused.{goes_on, refused-name, refused-rules}
 use Rattle.csi_orchestrator.proofs.judged_rows.first_refused.Goals as goal
 

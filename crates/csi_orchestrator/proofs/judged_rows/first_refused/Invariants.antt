@@ -1,7 +1,5 @@
 -- The rows so far are a record's.
-use Rattle.std.proofs.Common.{ℕ, List, nat_cmp}
-use Rattle.std.specs.BTreeSet.{contains_by}
-use Rattle.std.specs.Cmp.Lexicographic.{slice_cmp}
+use Rattle.csi_orchestrator.proofs.Words.{ℕ, List, nat_cmp, contains_by, slice_cmp}
 use Rattle.csi_orchestrator.proofs.FirstRefused.{SoFar}
 use Rattle.csi_orchestrator.proofs.judged_rows.first_refused.Given as goal
 

@@ -1,6 +1,5 @@
 -- What is left passes exactly where the whole list does.
-use Rattle.std.proofs.Common.{◌≡◌, drop}
-use Rattle.csi_orchestrator.specs.Private.Judging.{are_entries_fit}
+use Rattle.csi_orchestrator.proofs.Words.{◌≡◌, drop, are_entries_fit}
 use Rattle.csi_orchestrator.proofs.judging.are_entries_fit.Given as goal
 
 abbrev pub invariant-loop-place : goal.invariant-loop-place

@@ -1,7 +1,5 @@
 -- What is left passes exactly where the whole list does.
-use Rattle.std.proofs.Common.{◌≡◌, drop}
-use Rattle.std.specs.List.{list_all}
-use Rattle.csi_orchestrator.specs.Private.Judging.{is_published}
+use Rattle.csi_orchestrator.proofs.Words.{◌≡◌, drop, list_all, is_published}
 use Rattle.csi_orchestrator.proofs.judging.are_published.Given as goal
 
 abbrev pub invariant-loop-target_entry : goal.invariant-loop-target_entry

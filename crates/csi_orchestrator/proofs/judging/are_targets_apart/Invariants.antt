@@ -1,6 +1,5 @@
 -- What is left passes exactly where the whole list does.
-use Rattle.std.proofs.Common.{◌≡◌, drop}
-use Rattle.csi_orchestrator.specs.Private.Judging.{are_targets_apart}
+use Rattle.csi_orchestrator.proofs.Words.{◌≡◌, drop, are_targets_apart}
 use Rattle.csi_orchestrator.proofs.judging.are_targets_apart.Given as goal
 
 abbrev pub invariant-loop-place : goal.invariant-loop-place

@@ -1,7 +1,5 @@
 -- What is left passes exactly where the whole list does.
-use Rattle.std.proofs.Common.{◌≡◌, drop}
-use Rattle.std.specs.List.{list_all}
-use Rattle.csi_orchestrator.specs.Private.Judging.{is_other_target}
+use Rattle.csi_orchestrator.proofs.Words.{◌≡◌, drop, list_all, is_other_target}
 use Rattle.csi_orchestrator.proofs.judging.is_apart.Given as goal
 
 abbrev pub invariant-loop-other : goal.invariant-loop-other

@@ -1,6 +1,5 @@
 -- What is left passes exactly where the whole list does.
-use Rattle.std.proofs.Common.{◌≡◌, ◌==◌, drop, true}
-use Rattle.csi_orchestrator.specs.Private.Judging.{is_at_target}
+use Rattle.csi_orchestrator.proofs.Words.{◌≡◌, ◌==◌, drop, true, is_at_target}
 use Rattle.csi_orchestrator.proofs.judging.is_at_target.Given as goal
 
 abbrev pub invariant-loop-place : goal.invariant-loop-place

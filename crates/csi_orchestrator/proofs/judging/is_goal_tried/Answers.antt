@@ -1,6 +1,5 @@
 -- A stop is told by its tries and its node.
-use Rattle.std.proofs.Common.{Some, sym, ◌∙◌, ap}
-use Rattle.csi_orchestrator.specs.Private.Judging.{is_tried}
+use Rattle.csi_orchestrator.proofs.Words.{Some, sym, ◌∙◌, ap, is_tried}
 use Rattle.csi_orchestrator.proofs.judging.is_goal_tried.Goals as goal
 
 pub returns-in-Stop : goal.returns-in-Stop

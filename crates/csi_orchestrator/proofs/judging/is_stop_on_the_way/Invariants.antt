@@ -1,6 +1,5 @@
 -- What is left passes exactly where the whole list does.
-use Rattle.std.proofs.Common.{◌≡◌, drop}
-use Rattle.csi_orchestrator.specs.Private.Judging.{is_stop_on_the_way}
+use Rattle.csi_orchestrator.proofs.Words.{◌≡◌, drop, is_stop_on_the_way}
 use Rattle.csi_orchestrator.proofs.judging.is_stop_on_the_way.Given as goal
 
 abbrev pub invariant-loop-place : goal.invariant-loop-place

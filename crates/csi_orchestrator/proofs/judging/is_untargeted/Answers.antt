@@ -1,7 +1,5 @@
 -- By what is found of the node, as it is shown.
-use Rattle.std.proofs.Common.{sym, ◌∙◌, ap}
-use Rattle.std.specs.Option.{option_copied}
-use Rattle.csi_orchestrator.specs.Private.Judging.{is_untargeted}
+use Rattle.csi_orchestrator.proofs.Words.{sym, ◌∙◌, ap, option_copied, is_untargeted}
 use Rattle.csi_orchestrator.proofs.WalksOn.{untargeted-as}
 use Rattle.csi_orchestrator.proofs.judging.is_untargeted.Goals as goal
 

@@ -1,7 +1,5 @@
 -- The walk goes on behind an entry of another node.
-use Rattle.std.proofs.Common.{sym, ◌∙◌, ap, arith, drop, ◌+◌}
-use Rattle.std.specs.Prelude.{◌&&◌}
-use Rattle.csi_orchestrator.specs.Private.Judging.{is_use_on_the_way}
+use Rattle.csi_orchestrator.proofs.Words.{sym, ◌∙◌, ap, arith, drop, ◌+◌, ◌&&◌, is_use_on_the_way}
 use Rattle.csi_orchestrator.proofs.WalksOn.{use-walks}
 use Rattle.csi_orchestrator.proofs.judging.is_use_on_the_way.Goals as goal
 

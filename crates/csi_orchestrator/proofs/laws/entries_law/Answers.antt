@@ -1,7 +1,6 @@
 -- By what each row keeps.
-use Rattle.csi_lists.proofs.Each.{each-weaker}
-use Rattle.csi_orchestrator.specs.Public.Sound.{KeepsWhatIsNeeded}
-use Rattle.csi_orchestrator.specs.Public.Steady.{IsSteadyRow}
+use Rattle.csi_orchestrator.proofs.Words.{KeepsWhatIsNeeded, IsSteadyRow}
+use Rattle.csi_orchestrator.proofs.Lemmas.{each-weaker}
 use Rattle.csi_orchestrator.proofs.KeptInUse.{keeps-needed}
 use Rattle.csi_orchestrator.proofs.laws.entries_law.Goals as goal
 

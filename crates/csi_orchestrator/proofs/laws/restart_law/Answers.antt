@@ -1,8 +1,5 @@
 -- What the rows tell of a restart is what the history tells.
-use Rattle.std.proofs.Common.{ap}
-use Rattle.csi_orchestrator.specs.Model.Moves.{Restarts, Restarted}
-use Rattle.csi_orchestrator.specs.Public.Beginning.{restarted_parts}
-use Rattle.csi_orchestrator.specs.Private.RowMoves.{moved_unless}
+use Rattle.csi_orchestrator.proofs.Words.{ap, Restarts, Restarted, restarted_parts, moved_unless}
 use Rattle.csi_orchestrator.proofs.KeptRows.{all-steady-any}
 use Rattle.csi_orchestrator.proofs.PromisesTold.{is-done}
 use Rattle.csi_orchestrator.proofs.laws.restart_law.Goals as goal

@@ -1,22 +1,12 @@
 -- Item by item, goal by goal and input by input.
 use Rattle.csi_orchestrator.proofs.DueCalls.{due-told}
-use Rattle.csi_orchestrator.proofs.ViewsFollow.{started-follows, lost-follows, forgotten-follows, sent-follows, closed-follows, noted-follows}
-use Rattle.csi_orchestrator.proofs.RepliesFollow.{accepted-follows}
+use Rattle.csi_orchestrator.proofs.ViewFollowed.{view-follows}
 use Rattle.csi_orchestrator.proofs.RulesStay.{rows-stay-sound}
 use Rattle.csi_orchestrator.proofs.RepliesAgree.{rows-tell, moves-are-guarded}
 use Rattle.csi_orchestrator.proofs.laws.rows_follow.Goals as goal
 
 pub returns-clause-view_follows : goal.returns-clause-view_follows
-returns-clause-view_follows c =
-    record {
-      started = λ view history session nodes agrees rises. started-follows view history session nodes agrees;
-      lost = lost-follows;
-      forgotten = forgotten-follows;
-      sent = sent-follows;
-      accepted = accepted-follows;
-      closed = closed-follows;
-      noted = noted-follows;
-    }
+returns-clause-view_follows c = view-follows
 
 pub returns-clause-due_is_told : goal.returns-clause-due_is_told
 returns-clause-due_is_told c = due-told

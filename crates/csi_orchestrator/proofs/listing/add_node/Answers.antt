@@ -1,9 +1,6 @@
 -- Where nothing is noted, no target is.
-use Rattle.std.proofs.Common.{◌≡◌, ◌∙◌, ◌++◌, [], ap}
-use Rattle.std.specs.List.{flat_map}
-use Rattle.csi_orchestrator.specs.declared.thing.Thing.TheVariants.{Attached, Staged}
-use Rattle.csi_orchestrator.specs.Public.Shown.{node_entry_shown}
-use Rattle.csi_orchestrator.specs.Private.Listing.{noted, noted_of_target}
+use Rattle.csi_orchestrator.proofs.Words.{◌≡◌, ◌∙◌, ◌++◌, [], ap, flat_map, Attached, Staged, node_entry_shown, noted}
+use Rattle.csi_orchestrator.proofs.Words.{noted_of_target}
 use Rattle.csi_orchestrator.proofs.RowsWithoutNotes.{no-flat, no-right}
 use Rattle.csi_orchestrator.proofs.listing.add_node.Goals as goal
 

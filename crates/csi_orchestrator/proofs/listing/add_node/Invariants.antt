@@ -1,8 +1,5 @@
 -- What is known at the node, and at the first targets, was added.
-use Rattle.std.proofs.Common.{◌≡◌, ◌++◌, take}
-use Rattle.std.specs.List.{flat_map}
-use Rattle.csi_orchestrator.specs.declared.thing.Thing.TheVariants.{Attached, Staged}
-use Rattle.csi_orchestrator.specs.Private.Listing.{noted, noted_of_target}
+use Rattle.csi_orchestrator.proofs.Words.{◌≡◌, ◌++◌, take, flat_map, Attached, Staged, noted, noted_of_target}
 use Rattle.csi_orchestrator.proofs.listing.add_node.Given as goal
 
 abbrev pub invariant-loop-target_entry : goal.invariant-loop-target_entry

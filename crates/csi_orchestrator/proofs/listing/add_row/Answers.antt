@@ -1,10 +1,6 @@
 -- Where nothing is noted, no node is.
-use Rattle.std.proofs.Common.{◌≡◌, ◌∙◌, [], List, ap, map}
-use Rattle.std.specs.List.{flat_map}
-use Rattle.csi_orchestrator.specs.declared.row.NodeEntry.{NodeEntry}
-use Rattle.csi_orchestrator.specs.declared.thing.Thing.TheVariants.{Exists}
-use Rattle.csi_orchestrator.specs.Private.Listing.{noted, noted_of_node}
-use Rattle.csi_orchestrator.specs.Public.Shown.{node_entry_shown, row_shown}
+use Rattle.csi_orchestrator.proofs.Words.{◌≡◌, ◌∙◌, [], List, ap, map, flat_map, NodeEntry, Exists, noted}
+use Rattle.csi_orchestrator.proofs.Words.{noted_of_node, node_entry_shown, row_shown}
 use Rattle.csi_orchestrator.proofs.RowsWithoutNotes.{no-flat_shown, no-right}
 use Rattle.csi_orchestrator.proofs.listing.add_row.Goals as goal
 

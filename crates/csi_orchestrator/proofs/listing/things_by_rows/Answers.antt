@@ -1,8 +1,5 @@
 -- Where nothing is noted, no row notes anything.
-use Rattle.std.proofs.Common.{◌≡◌, ◌∙◌, [], ap, arith}
-use Rattle.csi_orchestrator.specs.declared.row.Row.{Row}
-use Rattle.csi_orchestrator.specs.Private.Listing.{noted_of_row}
-use Rattle.csi_orchestrator.specs.Public.Shown.{row_shown}
+use Rattle.csi_orchestrator.proofs.Words.{◌≡◌, ◌∙◌, [], ap, arith, Row, noted_of_row, row_shown}
 use Rattle.csi_orchestrator.proofs.RowsWithoutNotes.{no-flat_shown}
 use Rattle.csi_orchestrator.proofs.listing.things_by_rows.Goals as goal
 

@@ -1,14 +1,7 @@
 -- The sorted list has what the rows note, which is what they know, each thing once.
-use Rattle.std.proofs.Common.{List, map, subst, sym, ◌∙◌, rules}
-use Rattle.std.specs.List.Sorted.{IsPermutation}
-use Rattle.std.specs.Ordering.{is_lt}
-use Rattle.std.proofs.lemmas.List.Sorted.{ranks_by, answers_always}
-use Rattle.csi_lists.proofs.Members.{among-moved, among-back}
-use Rattle.csi_orchestrator.specs.declared.thing.Thing.{Thing}
-use Rattle.csi_orchestrator.specs.declared.thing.Known.{Known}
-use Rattle.csi_orchestrator.specs.Public.Shown.{row_shown}
-use Rattle.csi_orchestrator.specs.Private.Listing.{noted_in}
-use Rattle.csi_orchestrator.specs.Public.Listing.{thing_order}
+use Rattle.csi_orchestrator.proofs.Words.{List, map, subst, sym, ◌∙◌, rules, IsPermutation, is_lt, Thing, Known}
+use Rattle.csi_orchestrator.proofs.Words.{row_shown, noted_in, thing_order}
+use Rattle.csi_orchestrator.proofs.Lemmas.{ranks_by, answers_always, among-moved, among-back}
 use Rattle.csi_orchestrator.proofs.ThingsNoted.{rows-list, known-of}
 use Rattle.csi_orchestrator.proofs.ThingOrder.{order-total, sorted-in-order}
 use Rattle.csi_orchestrator.proofs.listing.things_in.Goals as goal

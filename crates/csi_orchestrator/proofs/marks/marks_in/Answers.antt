@@ -1,13 +1,7 @@
 -- Others are there where some are counted.
-use Rattle.std.proofs.Common.{◌≡◌, not, ◌∙◌, ap, rules}
-use Rattle.std.specs.Prelude.{count_by, nat_lt, ◌&&◌}
-use Rattle.csi_types.specs.Model.Same.{same_text}
-use Rattle.csi_orchestrator.specs.declared.row.TargetEntry.{TargetEntry}
-use Rattle.csi_orchestrator.specs.Public.Shown.{node_entry_shown}
-use Rattle.csi_orchestrator.specs.Public.RowDue.{others_in}
-use Rattle.std.specs.Prelude.{Some}
-use Rattle.csi_lists.proofs.Counts.{any-counted}
-use Rattle.csi_orchestrator.specs.Model.Thing.{is_no}
+use Rattle.csi_orchestrator.proofs.Words.{◌≡◌, not, ◌∙◌, ap, rules, count_by, nat_lt, ◌&&◌, same_text, TargetEntry}
+use Rattle.csi_orchestrator.proofs.Words.{node_entry_shown, others_in, Some, is_no}
+use Rattle.csi_orchestrator.proofs.Lemmas.{any-counted}
 use Rattle.csi_orchestrator.proofs.marks.marks_in.Goals as goal
 
 pub returns-in-Some : goal.returns-in-Some

@@ -1,9 +1,5 @@
 -- One target more is counted, or isn't.
-use Rattle.std.proofs.Common.{not, rules}
-use Rattle.std.specs.Prelude.{◌&&◌}
-use Rattle.csi_types.specs.Model.Same.{same_text}
-use Rattle.csi_orchestrator.specs.declared.row.TargetEntry.{TargetEntry}
-use Rattle.csi_orchestrator.specs.Model.Thing.{is_no}
+use Rattle.csi_orchestrator.proofs.Words.{not, rules, ◌&&◌, same_text, TargetEntry, is_no}
 use Rattle.csi_orchestrator.proofs.EntriesShown.{counted-more, counted-same}
 use Rattle.csi_orchestrator.proofs.marks.others_of.Goals as goal
 use Rattle.csi_orchestrator.proofs.marks.others_of.Goals.{then-ne+then-not-is_no, else-ne, else-ne-via-then-ne+else-not-is_no, else-ne-via-else-ne}

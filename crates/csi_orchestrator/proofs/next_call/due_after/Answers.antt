@@ -1,12 +1,6 @@
 -- What is due after the success is told by the marks.
-use Rattle.std.proofs.Common.{ℕ, sym, ◌∙◌, ap}
-use Rattle.std.specs.Prelude.{Option}
-use Rattle.std.specs.Option.{option_or}
-use Rattle.csi_orchestrator.specs.declared.marks.Marks.{Marks}
-use Rattle.csi_orchestrator.specs.Private.Hearing.{marks_heard}
-use Rattle.csi_orchestrator.specs.Private.RowChanges.{id_told}
-use Rattle.csi_orchestrator.specs.Public.Shown.{row_shown}
-use Rattle.csi_orchestrator.specs.Public.RowDue.{due_with}
+use Rattle.csi_orchestrator.proofs.Words.{ℕ, sym, ◌∙◌, ap, Option, option_or, Marks, marks_heard, id_told, row_shown}
+use Rattle.csi_orchestrator.proofs.Words.{due_with}
 use Rattle.csi_orchestrator.proofs.DueAfterSuccess.{due-after}
 use Rattle.csi_orchestrator.proofs.next_call.due_after.Goals as goal
 

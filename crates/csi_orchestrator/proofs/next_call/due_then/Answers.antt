@@ -1,11 +1,6 @@
 -- An entry for a use tells nothing that wasn't known.
-use Rattle.std.proofs.Common.{Some, None, sym, ◌∙◌, ap}
-use Rattle.std.specs.Option.{option_map}
-use Rattle.csi_orchestrator.specs.declared.marks.Marks.{Marks}
-use Rattle.csi_orchestrator.specs.Private.Found.{due_shown}
-use Rattle.csi_orchestrator.specs.Private.RowSteps.{row_before_call}
-use Rattle.csi_orchestrator.specs.Public.Shown.{row_shown}
-use Rattle.csi_orchestrator.specs.Public.RowDue.{use_due, due_in}
+use Rattle.csi_orchestrator.proofs.Words.{Some, None, sym, ◌∙◌, ap, option_map, Marks, due_shown, row_before_call}
+use Rattle.csi_orchestrator.proofs.Words.{row_shown, use_due, due_in}
 use Rattle.csi_orchestrator.proofs.DueAfterStep.{due-used-by}
 use Rattle.csi_orchestrator.proofs.next_call.due_then.Goals as goal
 

@@ -1,9 +1,6 @@
 -- At the index that is noted.
-use Rattle.std.proofs.Common.{List, length, refl, sym, ◌∙◌, ap}
-use Rattle.std.specs.Prelude.{slice_get}
-use Rattle.std.proofs.lemmas.Option.{slice_get_read, slice_get_past}
-use Rattle.csi_orchestrator.specs.declared.row.Row.{Row}
-use Rattle.csi_orchestrator.specs.Public.Changed.{is_numbered}
+use Rattle.csi_orchestrator.proofs.Words.{List, length, refl, sym, ◌∙◌, ap, slice_get, Row, is_numbered}
+use Rattle.csi_orchestrator.proofs.Lemmas.{slice_get_read, slice_get_past}
 use Rattle.csi_orchestrator.proofs.OpenCallPlaces.{none-noted, noted-nowhere, noted-otherwise, noted-there, numbered-noted}
 use Rattle.csi_orchestrator.proofs.replies.index_numbered.Goals as goal
 

@@ -1,8 +1,5 @@
 -- This entry is so.
-use Rattle.std.proofs.Common.{sym, not}
-use Rattle.csi_orchestrator.specs.Model.Shown.{NodeEntryShown}
-use Rattle.csi_orchestrator.specs.Public.Shown.{node_entry_shown}
-use Rattle.csi_orchestrator.specs.Model.Thing.{is_no}
+use Rattle.csi_orchestrator.proofs.Words.{sym, not, NodeEntryShown, node_entry_shown, is_no}
 use Rattle.csi_orchestrator.proofs.EntriesShown.{one-here}
 use Rattle.csi_orchestrator.proofs.sharing.is_attached_somewhere.Goals as goal
 

@@ -1,9 +1,5 @@
 -- None of the first entries is so.
-use Rattle.std.proofs.Common.{◌≡◌, false, map, take, not}
-use Rattle.std.specs.List.{list_any}
-use Rattle.csi_orchestrator.specs.Model.Thing.{is_no}
-use Rattle.csi_orchestrator.specs.Model.Shown.{NodeEntryShown}
-use Rattle.csi_orchestrator.specs.Public.Shown.{node_entry_shown}
+use Rattle.csi_orchestrator.proofs.Words.{◌≡◌, false, map, take, not, list_any, is_no, NodeEntryShown, node_entry_shown}
 use Rattle.csi_orchestrator.proofs.sharing.is_attached_somewhere.Given as goal
 
 abbrev pub invariant-loop-entry : goal.invariant-loop-entry

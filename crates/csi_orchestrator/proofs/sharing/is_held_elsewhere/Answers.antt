@@ -1,8 +1,5 @@
 -- This entry is so.
-use Rattle.std.proofs.Common.{sym}
-use Rattle.csi_orchestrator.specs.Model.Commands.{is_for_one_node}
-use Rattle.csi_orchestrator.specs.Public.RowRefusals.{is_so_elsewhere}
-use Rattle.csi_orchestrator.specs.Public.Shown.{node_entry_shown}
+use Rattle.csi_orchestrator.proofs.Words.{sym, is_for_one_node, is_so_elsewhere, node_entry_shown}
 use Rattle.csi_orchestrator.proofs.EntriesShown.{one-here}
 use Rattle.csi_orchestrator.proofs.sharing.is_held_elsewhere.Goals as goal
 

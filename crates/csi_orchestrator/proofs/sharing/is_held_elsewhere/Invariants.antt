@@ -1,9 +1,6 @@
 -- None of the first entries is so.
-use Rattle.std.proofs.Common.{◌≡◌, false, map, take}
-use Rattle.std.specs.List.{list_any}
-use Rattle.csi_orchestrator.specs.Model.Commands.{is_for_one_node}
-use Rattle.csi_orchestrator.specs.Public.RowRefusals.{is_so_elsewhere}
-use Rattle.csi_orchestrator.specs.Public.Shown.{node_entry_shown}
+use Rattle.csi_orchestrator.proofs.Words.{◌≡◌, false, map, take, list_any, is_for_one_node, is_so_elsewhere}
+use Rattle.csi_orchestrator.proofs.Words.{node_entry_shown}
 use Rattle.csi_orchestrator.proofs.sharing.is_held_elsewhere.Given as goal
 
 abbrev pub invariant-loop-entry : goal.invariant-loop-entry

@@ -1,8 +1,5 @@
 -- This entry is so.
-use Rattle.std.proofs.Common.{sym}
-use Rattle.csi_orchestrator.specs.Model.Commands.{uses_as_second_writer}
-use Rattle.csi_orchestrator.specs.Public.RowRefusals.{is_so_elsewhere}
-use Rattle.csi_orchestrator.specs.Public.Shown.{node_entry_shown}
+use Rattle.csi_orchestrator.proofs.Words.{sym, uses_as_second_writer, is_so_elsewhere, node_entry_shown}
 use Rattle.csi_orchestrator.proofs.EntriesShown.{one-here}
 use Rattle.csi_orchestrator.proofs.sharing.is_written_elsewhere.Goals as goal
 

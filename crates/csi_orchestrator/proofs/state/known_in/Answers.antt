@@ -1,12 +1,6 @@
 -- At the index of the name.
-use Rattle.std.proofs.Common.{◌∙◌, ℕ, List, sym, ap}
-use Rattle.std.specs.Prelude.{position}
-use Rattle.csi_types.specs.Model.Same.{same_text}
-use Rattle.csi_orchestrator.specs.declared.row.Row.{Row}
-use Rattle.csi_orchestrator.specs.Public.Catalog.{rows_of}
-use Rattle.csi_orchestrator.specs.Model.Thing.{name_in}
-use Rattle.csi_orchestrator.specs.Model.Shown.{RowShown, mark_in, mark_of}
-use Rattle.csi_orchestrator.specs.Public.Shown.{row_shown}
+use Rattle.csi_orchestrator.proofs.Words.{◌∙◌, ℕ, List, sym, ap, position, same_text, Row, rows_of, name_in, RowShown}
+use Rattle.csi_orchestrator.proofs.Words.{mark_in, mark_of, row_shown}
 use Rattle.csi_orchestrator.proofs.ChangedEntries.{find-place, find-none_placed}
 use Rattle.csi_orchestrator.proofs.RowsUnderNames.{read-at}
 use Rattle.csi_orchestrator.proofs.state.known_in.Goals as goal

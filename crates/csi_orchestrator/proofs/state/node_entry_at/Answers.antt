@@ -1,8 +1,5 @@
 -- By where it stands.
-use Rattle.std.proofs.Common.{sym}
-use Rattle.csi_types.specs.Model.Same.{same_text}
-use Rattle.csi_orchestrator.specs.Model.Shown.{NodeEntryShown}
-use Rattle.csi_orchestrator.specs.Public.Shown.{node_entry_shown}
+use Rattle.csi_orchestrator.proofs.Words.{sym, same_text, NodeEntryShown, node_entry_shown}
 use Rattle.csi_orchestrator.proofs.ChangedEntries.{find-place, find-none_placed}
 use Rattle.csi_orchestrator.proofs.state.node_entry_at.Goals as goal
 

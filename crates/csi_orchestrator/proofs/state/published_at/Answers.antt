@@ -1,9 +1,6 @@
 -- By where the target's entry stands.
-use Rattle.std.proofs.Common.{sym, ap}
-use Rattle.csi_lists.proofs.Searches.{find-no_place}
-use Rattle.csi_types.specs.Model.Same.{same_text}
-use Rattle.csi_orchestrator.specs.declared.row.TargetEntry.{TargetEntry}
-use Rattle.csi_orchestrator.specs.Model.Shown.{mark_in}
+use Rattle.csi_orchestrator.proofs.Words.{sym, ap, same_text, TargetEntry, mark_in}
+use Rattle.csi_orchestrator.proofs.Lemmas.{find-no_place}
 use Rattle.csi_orchestrator.proofs.ChangedEntries.{find-placed}
 use Rattle.csi_orchestrator.proofs.state.published_at.Goals as goal
 

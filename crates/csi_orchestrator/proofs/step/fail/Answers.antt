@@ -1,8 +1,5 @@
 -- The use is stopped.
-use Rattle.std.proofs.Common.{◌≡◌, Some, sym, ◌∙◌, ap}
-use Rattle.csi_orchestrator.specs.declared.row.Goal.TheVariants.{Use}
-use Rattle.csi_orchestrator.specs.Private.RowSteps.{failed}
-use Rattle.csi_orchestrator.specs.Public.Shown.{row_shown}
+use Rattle.csi_orchestrator.proofs.Words.{◌≡◌, Some, sym, ◌∙◌, ap, Use, failed, row_shown}
 use Rattle.csi_orchestrator.proofs.step.fail.Goals as goal
 
 pub returns-in-Use : goal.returns-in-Use

@@ -1,13 +1,6 @@
 -- By what is decided.
-use Rattle.std.proofs.Common.{◌≡◌, refl, sym, ◌∙◌, ap, subst}
-use Rattle.std.specs.Prelude.{Ok, Result, IfOk, IfErr}
-use Rattle.csi_orchestrator.specs.declared.decision.Decision.TheVariants.{Refuse, Met, Wait, Send}
-use Rattle.csi_orchestrator.specs.declared.fault.OrchFault.{OrchFault}
-use Rattle.csi_orchestrator.specs.declared.step.Step.{Step}
-use Rattle.csi_orchestrator.specs.Private.Decisions.{decided}
-use Rattle.csi_orchestrator.specs.Public.RowMoves.{IsRefusal}
-use Rattle.csi_orchestrator.specs.Private.RowSteps.{MovedRow, SendsNothing}
-use Rattle.csi_orchestrator.specs.Public.Shown.{row_shown}
+use Rattle.csi_orchestrator.proofs.Words.{◌≡◌, refl, sym, ◌∙◌, ap, subst, Ok, Result, IfOk, IfErr, Refuse, Met, Wait}
+use Rattle.csi_orchestrator.proofs.Words.{Send, OrchFault, Step, decided, IsRefusal, MovedRow, SendsNothing, row_shown}
 use Rattle.csi_orchestrator.proofs.DecisionsTold.{decision-tells, deletes-without}
 use Rattle.csi_orchestrator.proofs.DueAfterStep.{goes-quietly}
 use Rattle.csi_orchestrator.proofs.step.take.Goals as goal

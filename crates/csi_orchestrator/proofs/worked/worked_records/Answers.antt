@@ -1,12 +1,7 @@
 -- Rule by rule.
-use Rattle.std.proofs.Common.{◌≡◌, ◌≢◌, List, [], ◌∷◌, length, refl, sym, ap, inl, inr, arith}
-use Rattle.std.specs.Prelude.{Some, codes}
-use Rattle.std.proofs.lemmas.Bool.{false≢true}
-use Rattle.std.proofs.lemmas.Option.{none-some, same_Some}
-use Rattle.csi_orchestrator.specs.declared.row.TargetEntry.{TargetEntry}
-use Rattle.csi_orchestrator.specs.Model.Shown.{NodeEntryShown}
-use Rattle.csi_orchestrator.specs.declared.thing.Known.{Known}
-use Rattle.csi_orchestrator.specs.declared.thing.Known.TheVariants.{Yes, No, Maybe}
+use Rattle.csi_orchestrator.proofs.Words.{◌≡◌, ◌≢◌, List, [], ◌∷◌, length, refl, sym, ap, inl, inr, arith, Some, codes}
+use Rattle.csi_orchestrator.proofs.Words.{TargetEntry, NodeEntryShown, Known, Yes, No, Maybe}
+use Rattle.csi_orchestrator.proofs.Lemmas.{false≢true, none-some, same_Some}
 use Rattle.csi_orchestrator.specs.Private.WorkedRecords.{entry_at}
 use Rattle.csi_orchestrator.proofs.worked.worked_records.Goals as goal
 

@@ -1,6 +1,5 @@
 -- What is left has two records of one node exactly where the whole list has.
-use Rattle.std.proofs.Common.{◌≡◌, drop}
-use Rattle.csi_world.specs.Public.Simulating.{has_same_id}
+use Rattle.csi_world.proofs.Words.{◌≡◌, drop, has_same_id}
 use Rattle.csi_world.proofs.assembling.has_same_node.Given as goal
 
 abbrev pub invariant-loop-place : goal.invariant-loop-place

@@ -1,7 +1,5 @@
 -- The ids of a world's nodes differ.
-use Rattle.std.proofs.Common.{List, map, sym, subst}
-use Rattle.csi_node.specs.Model.Record.{NodeParts}
-use Rattle.csi_world.specs.Private.Listed.{AreDistinctTexts}
+use Rattle.csi_world.proofs.Words.{List, map, sym, subst, NodeParts, AreDistinctTexts}
 use Rattle.csi_world.proofs.SystemNodes.{apart-texts}
 use Rattle.csi_world.proofs.auditing.audit.Goals as goal
 

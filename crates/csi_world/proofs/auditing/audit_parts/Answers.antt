@@ -1,6 +1,5 @@
 -- The controller's rows keep a record's rules.
-use Rattle.std.proofs.Common.{sym, subst}
-use Rattle.csi_world.specs.Private.Listed.{AreRowsApart}
+use Rattle.csi_world.proofs.Words.{sym, subst, AreRowsApart}
 use Rattle.csi_world.proofs.auditing.audit_parts.Goals as goal
 
 pub audit_lists-requires : goal.audit_lists-requires

@@ -1,15 +1,10 @@
 -- Clause by clause.
-use Rattle.std.proofs.Common.{◌≡◌, Some, None, refl, sym, ◌∙◌}
-use Rattle.csi_lists.proofs.Options.{some_is_not_none}
-use Rattle.csi_orchestrator.specs.declared.thing.Thing.{Thing}
-use Rattle.csi_orchestrator.specs.declared.thing.Known.{Known}
-use Rattle.csi_orchestrator.specs.Model.Readings.{known}
+use Rattle.csi_world.proofs.Words.{◌≡◌, Some, None, refl, sym, ◌∙◌, Thing, Known, known, World, Safe, AreMarkedRight}
+use Rattle.csi_world.proofs.Lemmas.{some_is_not_none}
 use Rattle.csi_orchestrator.specs.Model.Shown.{orchestrator_view}
 use Rattle.csi_world.specs.declared.violation.Violation.{Violation}
 use Rattle.csi_world.specs.declared.violation.Violation.TheVariants.{TwoNodes, StagedUnattached, PublishedUnstaged, DeletedAttached, RecordedWrong}
-use Rattle.csi_world.specs.Model.World.{World}
-use Rattle.csi_world.specs.Model.Safe.{Safe}
-use Rattle.csi_world.specs.Public.Audited.{AreMarkedRight, Finds}
+use Rattle.csi_world.specs.Public.Audited.{Finds}
 use Rattle.csi_world.proofs.laws.audit_law.Goals as goal
 
 -- in a safe world all is marked right, by marks that are what is known

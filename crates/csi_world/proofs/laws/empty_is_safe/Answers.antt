@@ -1,14 +1,8 @@
 -- Nothing is staged or published at any node, nothing is held, and nothing is known or so.
-use Rattle.std.proofs.Common.{◌≡◌, map, false, refl, ap, subst}
-use Rattle.std.proofs.lemmas.Bool.{false≢true}
-use Rattle.csi_node.specs.Model.State.{NodeState}
-use Rattle.csi_orchestrator.specs.declared.thing.Thing.{Thing}
+use Rattle.csi_world.proofs.Words.{◌≡◌, map, false, refl, ap, subst, NodeState, Thing, is_yes, Config, IsAmong, node_id}
+use Rattle.csi_world.proofs.Words.{empty_world, holds}
+use Rattle.csi_world.proofs.Lemmas.{false≢true}
 use Rattle.csi_orchestrator.specs.declared.thing.Thing.TheVariants.{Exists, Attached, Staged, Published}
-use Rattle.csi_orchestrator.specs.Model.Thing.{is_yes}
-use Rattle.csi_types.specs.Model.Config.{Config}
-use Rattle.csi_lists.specs.Model.Members.{IsAmong}
-use Rattle.csi_world.specs.Model.World.{node_id, empty_world}
-use Rattle.csi_world.specs.Model.Safe.{holds}
 use Rattle.csi_world.proofs.PluginsReached.{knows-nothing}
 use Rattle.csi_world.proofs.laws.empty_is_safe.Goals as goal
 

@@ -1,6 +1,5 @@
 -- Each beginning of a run is a run, whose world is one to which steps lead.
-use Rattle.std.proofs.Common.{subst, take}
-use Rattle.csi_world.specs.Model.Safe.{Safe}
+use Rattle.csi_world.proofs.Words.{subst, take, Safe}
 use Rattle.csi_world.proofs.laws.runs_law.Goals as goal
 
 pub returns : goal.returns

@@ -1,6 +1,5 @@
 -- The ids of the first nodes were copied.
-use Rattle.std.proofs.Common.{◌≡◌, map, take}
-use Rattle.csi_world.specs.Model.World.{node_id}
+use Rattle.csi_world.proofs.Words.{◌≡◌, map, take, node_id}
 use Rattle.csi_world.proofs.plugins.ids_of.Given as goal
 
 abbrev pub invariant-loop-node : goal.invariant-loop-node

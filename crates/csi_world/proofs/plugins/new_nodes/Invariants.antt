@@ -1,7 +1,5 @@
 -- The first nodes were made.
-use Rattle.std.proofs.Common.{◌≡◌, map, take}
-use Rattle.csi_world.specs.Model.World.{node_id}
-use Rattle.csi_world.specs.Private.Simulating.{new_node_parts}
+use Rattle.csi_world.proofs.Words.{◌≡◌, map, take, node_id, new_node_parts}
 use Rattle.csi_world.proofs.plugins.new_nodes.Given as goal
 
 abbrev pub invariant-loop-one : goal.invariant-loop-one

@@ -1,9 +1,6 @@
 -- By where the node is.
-use Rattle.std.proofs.Common.{Bool, sym, ◌∙◌}
-use Rattle.csi_types.specs.Model.Same.{same_text}
-use Rattle.csi_node.specs.Model.Record.{NodeParts}
-use Rattle.csi_lists.proofs.Places.{FirstAt-position, FirstAt-find}
-use Rattle.csi_lists.proofs.Searches.{find-no_place}
+use Rattle.csi_world.proofs.Words.{Bool, sym, ◌∙◌, same_text, NodeParts}
+use Rattle.csi_world.proofs.Lemmas.{FirstAt-position, FirstAt-find, find-no_place}
 use Rattle.csi_world.proofs.plugins.node_of.Goals as goal
 
 pub returns-in-Some : goal.returns-in-Some

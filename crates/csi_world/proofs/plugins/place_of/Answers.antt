@@ -1,12 +1,8 @@
 -- The first node that has the id is the one at this place.
-use Rattle.std.proofs.Common.{◌≡◌, ◌<◌, ℕ, zero, suc, List, [], ◌∷◌, length, get_or, take, Bool, true, false, ap, sym, ◌∙◌, rules, arith}
-use Rattle.std.specs.List.{list_any}
-use Rattle.std.proofs.lemmas.Bool.{or_parts}
-use Rattle.csi_types.specs.Model.Same.{same_text}
-use Rattle.csi_lists.specs.Public.Places.{FirstAt}
-use Rattle.csi_lists.proofs.Places.{position-first, position-none}
-use Rattle.csi_lists.proofs.Tests.{none-among}
-use Rattle.csi_node.specs.Model.Record.{NodeParts}
+use Rattle.csi_world.proofs.Words.{◌≡◌, ◌<◌, ℕ, zero, suc, List, [], ◌∷◌, length, get_or, take, Bool, true, false, ap}
+use Rattle.csi_world.proofs.Words.{sym, ◌∙◌, arith, list_any, same_text, FirstAt, NodeParts}
+use Rattle.csi_world.proofs.Lemmas.{or_parts, position-first, position-none, none-among}
+use Rattle.std.proofs.Common.{rules}
 use Rattle.csi_world.proofs.FoundByHalving.{at-place}
 use Rattle.csi_world.proofs.WholeLists.{take-whole}
 use Rattle.csi_world.proofs.plugins.place_of.Goals as goal

@@ -1,10 +1,6 @@
 -- Each part is new.
-use Rattle.std.proofs.Common.{ℕ, List, ◌∙◌, ap, map, subst}
+use Rattle.csi_world.proofs.Words.{ℕ, List, ◌∙◌, ap, map, subst, new_history, Shows, node_id, new_node_parts}
 use Rattle.csi_types.specs.declared.config.NodeSlots.{NodeSlots}
-use Rattle.csi_orchestrator.specs.Model.History.{new_history}
-use Rattle.csi_orchestrator.specs.Model.Shown.{Shows}
-use Rattle.csi_world.specs.Model.World.{node_id}
-use Rattle.csi_world.specs.Private.Simulating.{new_node_parts}
 use Rattle.csi_world.proofs.SimulatedRuns.{run-first}
 use Rattle.csi_world.proofs.simulation.new_system.Goals as goal
 

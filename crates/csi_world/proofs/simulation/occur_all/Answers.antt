@@ -1,9 +1,6 @@
 -- One event more.
-use Rattle.std.proofs.Common.{◌≡◌, ◌+◌, ◌++◌, ◌∷◌, [], List, take, sym, ◌∙◌, ap, subst}
-use Rattle.std.proofs.lemmas.List.{take_more}
-use Rattle.csi_types.specs.declared.event.Event.{Event}
-use Rattle.csi_world.specs.Model.After.{after}
-use Rattle.csi_world.specs.Private.Simulating.{IsRun}
+use Rattle.csi_world.proofs.Words.{◌≡◌, ◌+◌, ◌++◌, ◌∷◌, [], List, take, sym, ◌∙◌, ap, subst, Event, after, IsRun}
+use Rattle.csi_world.proofs.Lemmas.{take_more}
 use Rattle.csi_world.specs.Public.System.{world_parts}
 use Rattle.csi_world.proofs.SimulatedRuns.{run-more}
 use Rattle.csi_world.proofs.simulation.occur_all.Goals as goal

@@ -1,7 +1,5 @@
 -- The first events happened.
-use Rattle.std.proofs.Common.{[], take}
-use Rattle.csi_types.specs.Model.Config.{Config}
-use Rattle.csi_world.specs.Private.Simulating.{IsRun}
+use Rattle.csi_world.proofs.Words.{[], take, Config, IsRun}
 use Rattle.csi_world.specs.Public.System.{world_parts}
 use Rattle.csi_world.proofs.simulation.occur_all.Given as goal
 

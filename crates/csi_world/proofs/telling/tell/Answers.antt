@@ -1,8 +1,6 @@
 -- What settles a volume is told by numbers.
-use Rattle.std.proofs.Common.{◌≡◌, ◌++◌, List, length, OnOk, rules, sym, ◌∙◌, ap, subst}
-use Rattle.csi_types.specs.declared.event.Event.{Event}
-use Rattle.csi_world.specs.Public.Settling.{spelled}
-use Rattle.csi_world.specs.Private.Telling.{counted_events}
+use Rattle.csi_world.proofs.Words.{◌≡◌, ◌++◌, List, length, sym, ◌∙◌, ap, subst, Event, spelled, counted_events}
+use Rattle.std.proofs.Common.{OnOk, rules}
 use Rattle.csi_world.proofs.SettledWorlds.{settling-counted}
 use Rattle.csi_world.proofs.telling.tell.Goals as goal
 

@@ -1,9 +1,6 @@
 -- One more at the end, or none.
-use Rattle.std.proofs.Common.{◌++◌, ◌∷◌, [], ℕ, List, ◌∙◌, ap, refl}
-use Rattle.std.specs.Prelude.{nat_eq}
-use Rattle.std.specs.Cmp.Lexicographic.{pointwise}
-use Rattle.indexmap.specs.IndexMap.{insert_entry, values}
-use Rattle.csi_orchestrator.specs.declared.row.Row.{Row}
+use Rattle.csi_orchestrator.proofs.Words.{◌++◌, ◌∷◌, [], ℕ, List, ◌∙◌, ap, refl, nat_eq, pointwise, insert_entry}
+use Rattle.csi_orchestrator.proofs.Words.{values, Row}
 use Rattle.csi_orchestrator.proofs.RowsUnderNames.{put-last, rows-added, ready-added}
 use Rattle.csi_orchestrator.proofs.catalog.Catalog.add.Goals as goal
 

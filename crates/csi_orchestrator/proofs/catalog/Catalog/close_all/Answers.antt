@@ -1,7 +1,5 @@
 -- One more call is closed.
-use Rattle.std.proofs.Common.{refl, arith}
-use Rattle.csi_orchestrator.specs.Public.Catalog.{rows_of}
-use Rattle.csi_orchestrator.specs.declared.catalog.Catalog.{Catalog}
+use Rattle.csi_orchestrator.proofs.Words.{refl, arith, rows_of, Catalog}
 use Rattle.csi_orchestrator.proofs.NotedCalls.{turn-closed, closed-all, emptied-indexed, emptied-room}
 use Rattle.csi_orchestrator.proofs.catalog.Catalog.close_all.Goals as goal
 

@@ -1,9 +1,5 @@
 -- The same row, without its open call.
-use Rattle.std.proofs.Common.{◌≡◌, ℕ, List, refl, subst, arith}
-use Rattle.csi_orchestrator.specs.declared.row.Row.{Row}
-use Rattle.csi_orchestrator.specs.Public.Catalog.{rows_of}
-use Rattle.csi_orchestrator.specs.Private.Catalog.{IsClosedAt}
-use Rattle.csi_orchestrator.specs.Private.Shown.{without_call}
+use Rattle.csi_orchestrator.proofs.Words.{◌≡◌, ℕ, List, refl, subst, arith, Row, rows_of, IsClosedAt, without_call}
 use Rattle.csi_orchestrator.proofs.RowsUnderNames.{names-set, rows-below, closed-at, closed-nowhere}
 use Rattle.csi_orchestrator.proofs.catalog.Catalog.close_noted.Goals as goal
 

@@ -1,9 +1,6 @@
 -- Those that are remembered, in order.
-use Rattle.std.proofs.Common.{rules, ℕ, List, not}
-use Rattle.indexmap.proofs.CallerLemmas.{filter-RetainsPairs}
-use Rattle.csi_orchestrator.specs.declared.row.Row.{Row}
-use Rattle.csi_orchestrator.specs.Public.Beginning.{is_row_forgotten}
-use Rattle.csi_orchestrator.specs.Public.Shown.{row_shown}
+use Rattle.csi_orchestrator.proofs.Words.{rules, ℕ, List, not, Row, is_row_forgotten, row_shown}
+use Rattle.csi_orchestrator.proofs.Lemmas.{filter-RetainsPairs}
 use Rattle.csi_orchestrator.proofs.RowsForgotten.{rows-remembered, remembered-indexed}
 use Rattle.csi_orchestrator.proofs.catalog.Catalog.forget.Goals as goal
 

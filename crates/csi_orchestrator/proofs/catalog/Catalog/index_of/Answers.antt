@@ -1,8 +1,5 @@
 -- By the keys.
-use Rattle.std.proofs.Common.{◌∙◌}
-use Rattle.csi_types.specs.Model.Same.{same_text}
-use Rattle.csi_orchestrator.specs.declared.row.Row.{Row}
-use Rattle.csi_orchestrator.specs.Public.Catalog.{rows_of, by_name}
+use Rattle.csi_orchestrator.proofs.Words.{◌∙◌, same_text, Row, rows_of, by_name}
 use Rattle.csi_orchestrator.proofs.RowsUnderNames.{position-keys}
 use Rattle.csi_orchestrator.proofs.TextLists.{same_text-flip}
 use Rattle.csi_orchestrator.proofs.catalog.Catalog.index_of.Goals as goal

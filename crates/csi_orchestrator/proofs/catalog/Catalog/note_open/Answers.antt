@@ -1,9 +1,5 @@
 -- The row that stands there.
-use Rattle.std.proofs.Common.{sym, ◌∙◌, subst, refl}
-use Rattle.std.specs.Prelude.{Option}
-use Rattle.csi_orchestrator.specs.declared.row.OpenCall.{OpenCall}
-use Rattle.csi_orchestrator.specs.Public.Catalog.{rows_of}
-use Rattle.csi_orchestrator.specs.Private.Catalog.{IsNotedWith}
+use Rattle.csi_orchestrator.proofs.Words.{sym, ◌∙◌, subst, refl, Option, OpenCall, rows_of, IsNotedWith}
 use Rattle.csi_orchestrator.proofs.NotedCalls.{held-ok, grown, open-there}
 use Rattle.csi_orchestrator.proofs.catalog.Catalog.note_open.Goals as goal
 

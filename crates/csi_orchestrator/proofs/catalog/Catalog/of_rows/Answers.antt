@@ -1,10 +1,7 @@
 -- One more row, whose name none of the earlier ones has, without an open call.
-use Rattle.std.proofs.Common.{rules, ◌≡◌, ◌++◌, ◌∷◌, [], List, sym, ◌∙◌, ap, length}
-use Rattle.std.specs.Prelude.{None}
-use Rattle.std.proofs.lemmas.List.{append_assoc}
-use Rattle.std.specs.Vec.Iter.{into_iter_items}
-use Rattle.csi_orchestrator.specs.declared.row.Row.{Row}
-use Rattle.csi_orchestrator.specs.Public.Catalog.{rows_of}
+use Rattle.csi_orchestrator.proofs.Words.{rules, ◌≡◌, ◌++◌, ◌∷◌, [], List, sym, ◌∙◌, ap, length, None, into_iter_items}
+use Rattle.csi_orchestrator.proofs.Words.{Row, rows_of}
+use Rattle.csi_orchestrator.proofs.Lemmas.{append_assoc}
 use Rattle.csi_orchestrator.proofs.RowsOfRecord.{new-name, next-none, no-call}
 use Rattle.csi_orchestrator.proofs.RowsUnderNames.{ready-none}
 use Rattle.csi_orchestrator.proofs.catalog.Catalog.of_rows.Goals as goal

@@ -1,7 +1,6 @@
 -- The first rows were added, and no call is noted; the others are left.
-use Rattle.std.proofs.Common.{◌≡◌, ◌++◌, length}
-use Rattle.std.specs.Vec.Iter.{into_iter_items, into_iter_len}
-use Rattle.csi_orchestrator.specs.Public.Catalog.{rows_of, IsIndexed, AreUpTo}
+use Rattle.csi_orchestrator.proofs.Words.{◌≡◌, ◌++◌, length, into_iter_items, into_iter_len, rows_of, IsIndexed}
+use Rattle.csi_orchestrator.proofs.Words.{AreUpTo}
 use Rattle.csi_orchestrator.proofs.catalog.Catalog.of_rows.Given as goal
 
 abbrev pub invariant-loop-row : goal.invariant-loop-row

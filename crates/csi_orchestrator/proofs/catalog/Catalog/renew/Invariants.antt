@@ -1,6 +1,5 @@
 -- The open calls of the rows before this index are noted, and no other.
-use Rattle.std.proofs.Common.{◌≤◌, length}
-use Rattle.csi_orchestrator.specs.Public.Catalog.{rows_of}
+use Rattle.csi_orchestrator.proofs.Words.{◌≤◌, length, rows_of}
 use Rattle.csi_orchestrator.proofs.NotedCalls.{Renewed}
 use Rattle.csi_orchestrator.proofs.catalog.Catalog.renew.Given as goal
 

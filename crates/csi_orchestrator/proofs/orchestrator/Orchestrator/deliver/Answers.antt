@@ -1,7 +1,5 @@
 -- By the rows.
-use Rattle.std.proofs.Common.{None}
-use Rattle.csi_orchestrator.specs.declared.fault.Heard.TheVariants.{Ignored}
-use Rattle.csi_orchestrator.specs.Model.Moves.{Comes, Hears, hears}
+use Rattle.csi_orchestrator.proofs.Words.{None, Ignored, Comes, Hears, hears}
 use Rattle.csi_orchestrator.proofs.ChangedRows.{heard-promised}
 use Rattle.csi_orchestrator.proofs.PromisesTold.{ok-promised, err-promised, kept-promised, nodes-promised, answered-promised}
 use Rattle.csi_orchestrator.proofs.orchestrator.Orchestrator.deliver.Goals as goal

@@ -1,11 +1,7 @@
 -- What is opened keeps what its type keeps.
-use Rattle.std.proofs.Common.{◌≡◌, ◌∙◌, ◌+◌, ℕ, List, None, map, sym, ap, subst}
-use Rattle.csi_orchestrator.specs.Model.Shown.{RowShown}
-use Rattle.csi_orchestrator.specs.Public.Beginning.{remembered, restart_refusal}
-use Rattle.csi_orchestrator.specs.Public.CoreParts.{orchestrator_parts_shown}
-use Rattle.csi_orchestrator.specs.Public.Laws.{opened_parts}
-use Rattle.csi_orchestrator.specs.Public.Shown.{row_shown}
-use Rattle.csi_orchestrator.specs.Public.Sound.{AreSoundParts}
+use Rattle.csi_orchestrator.proofs.Words.{◌≡◌, ◌∙◌, ◌+◌, ℕ, List, None, map, sym, ap, subst, RowShown, remembered}
+use Rattle.csi_orchestrator.proofs.Words.{restart_refusal, orchestrator_parts_shown, opened_parts, row_shown}
+use Rattle.csi_orchestrator.proofs.Words.{AreSoundParts}
 use Rattle.csi_orchestrator.proofs.Opened.{opened}
 use Rattle.csi_orchestrator.proofs.orchestrator.Orchestrator.from_record.Goals as goal
 

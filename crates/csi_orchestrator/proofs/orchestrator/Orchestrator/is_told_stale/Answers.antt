@@ -1,8 +1,5 @@
 -- By the rows, and by each history that they show.
-use Rattle.std.proofs.Common.{◌∙◌, sym, subst}
-use Rattle.csi_orchestrator.specs.Model.Shown.{OrchestratorParts}
-use Rattle.csi_orchestrator.specs.Model.Shown.{Shows}
-use Rattle.csi_orchestrator.specs.Public.CoreParts.{orchestrator_parts_shown}
+use Rattle.csi_orchestrator.proofs.Words.{◌∙◌, sym, subst, OrchestratorParts, Shows, orchestrator_parts_shown}
 use Rattle.csi_orchestrator.proofs.StaleReplies.{history-says}
 use Rattle.csi_orchestrator.proofs.orchestrator.Orchestrator.is_told_stale.Goals as goal
 

@@ -1,7 +1,5 @@
 -- What the rows tell is what the history tells.
-use Rattle.std.proofs.Common.{◌∙◌, ap}
-use Rattle.csi_orchestrator.specs.Model.Shown.{OrchestratorParts, mark_in, mark_of, row_of}
-use Rattle.csi_orchestrator.specs.Model.Thing.{name_in}
+use Rattle.csi_orchestrator.proofs.Words.{◌∙◌, ap, OrchestratorParts, mark_in, mark_of, row_of, name_in}
 use Rattle.csi_orchestrator.proofs.orchestrator.Orchestrator.known.Goals as goal
 
 pub returns-clause-agrees : goal.returns-clause-agrees

@@ -1,8 +1,6 @@
 -- By the rows.
-use Rattle.std.proofs.Common.{◌≡◌, ◌+◌, ◌^◌, subst}
-use Rattle.std.specs.Prelude.{IfErr}
+use Rattle.csi_orchestrator.proofs.Words.{◌≡◌, ◌+◌, ◌^◌, subst, IfErr, OrchestratorParts}
 use Rattle.csi_orchestrator.specs.declared.fault.OrchFault.TheVariants as Fault
-use Rattle.csi_orchestrator.specs.Model.Shown.{OrchestratorParts}
 use Rattle.csi_orchestrator.proofs.BeginningsTold.{loss-value}
 use Rattle.csi_orchestrator.proofs.PromisesTold.{ok-promised, err-promised, kept-promised}
 use Rattle.csi_orchestrator.proofs.orchestrator.Orchestrator.lose.Goals as goal

@@ -1,11 +1,6 @@
 -- No rows, and no call is noted; what is shown agrees with the history of an orchestrator that did nothing.
-use Rattle.std.proofs.Common.{List, map, refl, sym, subst, arith}
-use Rattle.csi_orchestrator.specs.declared.row.Row.{Row}
-use Rattle.csi_orchestrator.specs.Model.History.{history_after}
-use Rattle.csi_orchestrator.specs.Public.Sound.{AreSoundParts}
-use Rattle.csi_orchestrator.specs.Public.Steps.{Begins}
-use Rattle.csi_orchestrator.specs.Model.Shown.{OrchestratorParts}
-use Rattle.csi_orchestrator.specs.Public.Shown.{row_shown}
+use Rattle.csi_orchestrator.proofs.Words.{List, map, refl, sym, subst, arith, Row, history_after, AreSoundParts, Begins}
+use Rattle.csi_orchestrator.proofs.Words.{OrchestratorParts, row_shown}
 use Rattle.csi_orchestrator.proofs.orchestrator.Orchestrator.numbered.Goals as goal
 
 pub invariant_of-result : goal.invariant_of-result

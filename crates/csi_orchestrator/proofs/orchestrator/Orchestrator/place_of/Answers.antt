@@ -1,11 +1,6 @@
 -- Among the rows as they are shown.
-use Rattle.std.proofs.Common.{refl, sym, ◌∙◌, ap}
-use Rattle.csi_types.specs.Model.Same.{same_text}
-use Rattle.csi_orchestrator.specs.declared.row.Row.{Row}
-use Rattle.csi_orchestrator.specs.Model.Shown.{RowShown, OrchestratorParts}
-use Rattle.csi_orchestrator.specs.Public.Catalog.{rows_of}
-use Rattle.csi_orchestrator.specs.Public.Changed.{place_by_name}
-use Rattle.csi_orchestrator.specs.Public.Shown.{row_shown}
+use Rattle.csi_orchestrator.proofs.Words.{refl, sym, ◌∙◌, ap, same_text, Row, RowShown, OrchestratorParts, rows_of}
+use Rattle.csi_orchestrator.proofs.Words.{place_by_name, row_shown}
 use Rattle.csi_orchestrator.proofs.RowsUnderNames.{position-map}
 use Rattle.csi_orchestrator.proofs.orchestrator.Orchestrator.place_of.Goals as goal
 

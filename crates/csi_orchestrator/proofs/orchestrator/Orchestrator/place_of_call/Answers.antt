@@ -1,10 +1,6 @@
 -- Among the rows as they are shown.
-use Rattle.std.proofs.Common.{refl, sym, ◌∙◌, ap}
-use Rattle.csi_orchestrator.specs.declared.row.Row.{Row}
-use Rattle.csi_orchestrator.specs.Model.Shown.{RowShown, OrchestratorParts}
-use Rattle.csi_orchestrator.specs.Public.Catalog.{rows_of}
-use Rattle.csi_orchestrator.specs.Public.Changed.{is_numbered, place_by_call}
-use Rattle.csi_orchestrator.specs.Public.Shown.{row_shown}
+use Rattle.csi_orchestrator.proofs.Words.{refl, sym, ◌∙◌, ap, Row, RowShown, OrchestratorParts, rows_of, is_numbered}
+use Rattle.csi_orchestrator.proofs.Words.{place_by_call, row_shown}
 use Rattle.csi_orchestrator.proofs.RowsUnderNames.{position-map}
 use Rattle.csi_orchestrator.proofs.orchestrator.Orchestrator.place_of_call.Goals as goal
 

@@ -1,10 +1,6 @@
 -- The rows of the catalog, by what the type keeps of them.
-use Rattle.std.proofs.Common.{map, refl, sym, ◌∙◌, ap, subst}
-use Rattle.std.specs.List.{AllByRecursion}
-use Rattle.csi_orchestrator.specs.Model.Shown.{OrchestratorParts}
-use Rattle.csi_orchestrator.specs.Public.Bounds.{IsRowFew}
-use Rattle.csi_orchestrator.specs.Public.CoreParts.{orchestrator_parts_shown}
-use Rattle.csi_orchestrator.specs.Public.Shown.{row_shown}
+use Rattle.csi_orchestrator.proofs.Words.{map, refl, sym, ◌∙◌, ap, subst, AllByRecursion, OrchestratorParts, IsRowFew}
+use Rattle.csi_orchestrator.proofs.Words.{orchestrator_parts_shown, row_shown}
 use Rattle.csi_orchestrator.proofs.FewRows.{rows-few}
 use Rattle.csi_orchestrator.proofs.orchestrator.Orchestrator.rows.Goals as goal
 

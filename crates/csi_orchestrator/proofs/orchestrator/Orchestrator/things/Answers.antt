@@ -1,12 +1,7 @@
 -- What the rows know is what the history tells.
-use Rattle.std.proofs.Common.{◌≡◌, List, map, ◌∙◌, ap, sym, subst}
-use Rattle.std.specs.Prelude.{IfOk}
-use Rattle.std.proofs.lemmas.Result.{IfOk-weaker}
-use Rattle.csi_orchestrator.specs.Model.Shown.{RowShown, OrchestratorParts}
-use Rattle.csi_orchestrator.specs.Public.Shown.{row_shown}
-use Rattle.csi_orchestrator.specs.Public.Sound.{AreSoundRows}
-use Rattle.csi_orchestrator.specs.Private.Listing.{known_by_rows, noted_in}
-use Rattle.csi_orchestrator.specs.Public.Listing.{ListsKnown}
+use Rattle.csi_orchestrator.proofs.Words.{◌≡◌, List, map, ◌∙◌, ap, sym, subst, IfOk, RowShown, OrchestratorParts}
+use Rattle.csi_orchestrator.proofs.Words.{row_shown, AreSoundRows, known_by_rows, noted_in, ListsKnown}
+use Rattle.csi_orchestrator.proofs.Lemmas.{IfOk-weaker}
 use Rattle.csi_orchestrator.proofs.RowsWithoutNotes.{nothing-noted}
 use Rattle.csi_orchestrator.proofs.ThingsNoted.{lists-told}
 use Rattle.csi_orchestrator.proofs.orchestrator.Orchestrator.things.Goals as goal

@@ -1,6 +1,5 @@
 -- By the rows.
-use Rattle.std.proofs.Common.{None, refl}
-use Rattle.csi_orchestrator.specs.Model.Moves.{ToUse, Sends}
+use Rattle.csi_orchestrator.proofs.Words.{None, refl, ToUse, Sends}
 use Rattle.csi_orchestrator.proofs.ChangedRows.{changed-promised}
 use Rattle.csi_orchestrator.proofs.PromisesTold.{ok-promised, err-promised, kept-promised, nodes-promised, answered-promised}
 use Rattle.csi_orchestrator.proofs.RestingRows.{rests-promised}

@@ -1,10 +1,6 @@
 -- Its rows without their open calls keep the rules.
-use Rattle.std.proofs.Common.{◌≡◌, ◌∙◌, map, sym, ap, subst}
-use Rattle.csi_orchestrator.specs.Public.Catalog.{rows_of}
-use Rattle.csi_orchestrator.specs.Public.CoreParts.{orchestrator_parts_shown}
-use Rattle.csi_orchestrator.specs.Public.Record.{AreNodesFit}
-use Rattle.csi_orchestrator.specs.Public.Restored.{AreRestorable}
-use Rattle.csi_orchestrator.specs.Public.Shown.{row_shown, closed}
+use Rattle.csi_orchestrator.proofs.Words.{◌≡◌, ◌∙◌, map, sym, ap, subst, rows_of, orchestrator_parts_shown, AreNodesFit}
+use Rattle.csi_orchestrator.proofs.Words.{AreRestorable, row_shown, closed}
 use Rattle.csi_orchestrator.proofs.ClosedRows.{shown-closed}
 use Rattle.csi_orchestrator.proofs.RowsRestorable.{steady-restorable}
 use Rattle.csi_orchestrator.proofs.record.OrchestratorRecord.of_core.Goals as goal

@@ -1,7 +1,5 @@
 -- By the rules of a record's rows.
-use Rattle.std.proofs.Common.{sym, subst}
-use Rattle.std.specs.List.{AllByRecursion}
-use Rattle.csi_orchestrator.specs.Public.Bounds.{IsRowFew}
+use Rattle.csi_orchestrator.proofs.Words.{sym, subst, AllByRecursion, IsRowFew}
 use Rattle.csi_orchestrator.proofs.FewRows.{record-few}
 use Rattle.csi_orchestrator.proofs.record.OrchestratorRecord.rows.Goals as goal
 

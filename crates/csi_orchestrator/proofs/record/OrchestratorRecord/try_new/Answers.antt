@@ -1,8 +1,5 @@
 -- Rows that are a record's have no first one that is refused.
-use Rattle.std.proofs.Common.{ℕ, List, map, sym, subst}
-use Rattle.csi_orchestrator.specs.declared.row.Row.{Row}
-use Rattle.csi_orchestrator.specs.Public.Restored.{AreRestorable}
-use Rattle.csi_orchestrator.specs.Public.Shown.{row_shown}
+use Rattle.csi_orchestrator.proofs.Words.{ℕ, List, map, sym, subst, Row, AreRestorable, row_shown}
 use Rattle.csi_orchestrator.proofs.FirstRefused.{not-both}
 use Rattle.csi_orchestrator.proofs.RowsOfRecord.{rows-apart, rows-closed}
 use Rattle.csi_orchestrator.proofs.record.OrchestratorRecord.try_new.Goals as goal

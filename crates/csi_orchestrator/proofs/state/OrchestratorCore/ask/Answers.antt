@@ -1,14 +1,8 @@
 -- At the row of the name.
-use Rattle.std.proofs.Common.{◌≡◌, Some, None, refl, sym, subst}
-use Rattle.std.specs.Prelude.{Result, IfOk, IfErr}
-use Rattle.csi_types.specs.Model.Frame.{Frame}
-use Rattle.csi_orchestrator.specs.declared.fault.OrchFault.{OrchFault}
+use Rattle.csi_orchestrator.proofs.Words.{◌≡◌, Some, None, refl, sym, subst, Result, IfOk, IfErr, Frame, OrchFault}
+use Rattle.csi_orchestrator.proofs.Words.{rows_of, orchestrator_parts_shown, Sends, MovedRows, moved_rows, IsRefusal}
+use Rattle.csi_orchestrator.proofs.Words.{steps_at, RowsAnswer}
 use Rattle.csi_orchestrator.specs.declared.fault.OrchFault.TheVariants.{NoSuchVolume}
-use Rattle.csi_orchestrator.specs.Public.Catalog.{rows_of}
-use Rattle.csi_orchestrator.specs.Public.CoreParts.{orchestrator_parts_shown}
-use Rattle.csi_orchestrator.specs.Model.Moves.{Sends}
-use Rattle.csi_orchestrator.specs.Public.RowMoves.{MovedRows, moved_rows, IsRefusal}
-use Rattle.csi_orchestrator.specs.Private.RowMoves.{steps_at, RowsAnswer}
 use Rattle.csi_orchestrator.proofs.RowsByName.{shown-nowhere, asked}
 use Rattle.csi_orchestrator.proofs.state.OrchestratorCore.ask.Goals as goal
 

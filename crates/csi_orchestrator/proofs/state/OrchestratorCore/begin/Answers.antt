@@ -1,11 +1,6 @@
 -- Each call is closed, and then rows are forgotten.
-use Rattle.std.proofs.Common.{◌≡◌, ◌∙◌, List, None, map, sym, ap, subst}
-use Rattle.std.specs.List.{AllByRecursion}
-use Rattle.csi_orchestrator.specs.declared.row.Row.{Row}
-use Rattle.csi_orchestrator.specs.Model.Shown.{RowShown}
-use Rattle.csi_orchestrator.specs.Public.Beginning.{remembered}
-use Rattle.csi_orchestrator.specs.Public.Catalog.{rows_of}
-use Rattle.csi_orchestrator.specs.Public.Shown.{row_shown}
+use Rattle.csi_orchestrator.proofs.Words.{◌≡◌, ◌∙◌, List, None, map, sym, ap, subst, AllByRecursion, Row, RowShown}
+use Rattle.csi_orchestrator.proofs.Words.{remembered, rows_of, row_shown}
 use Rattle.csi_orchestrator.proofs.BeginningsTold.{all-closed, each-unshown, remembered-closed}
 use Rattle.csi_orchestrator.proofs.ClosedRows.{shown-closed}
 use Rattle.csi_orchestrator.proofs.state.OrchestratorCore.begin.Goals as goal

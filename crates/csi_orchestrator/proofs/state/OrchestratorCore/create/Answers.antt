@@ -1,13 +1,7 @@
 -- At the row of the name, or with a new one.
-use Rattle.std.proofs.Common.{◌≡◌, sym, subst}
-use Rattle.std.specs.Prelude.{Option, Result, IfOk, IfErr}
-use Rattle.csi_orchestrator.specs.declared.fault.OrchFault.{OrchFault}
-use Rattle.csi_orchestrator.specs.Public.Catalog.{rows_of}
-use Rattle.csi_orchestrator.specs.Public.CoreParts.{orchestrator_parts_shown}
-use Rattle.csi_orchestrator.specs.Model.Moves.{Sends}
-use Rattle.csi_orchestrator.specs.Public.RowMoves.{MovedRows, moved_rows, IsRefusal}
-use Rattle.csi_orchestrator.specs.Private.RowMoves.{creates}
-use Rattle.csi_orchestrator.specs.Model.Shown.{RowShown}
+use Rattle.csi_orchestrator.proofs.Words.{◌≡◌, sym, subst, Option, Result, IfOk, IfErr, OrchFault, rows_of}
+use Rattle.csi_orchestrator.proofs.Words.{orchestrator_parts_shown, Sends, MovedRows, moved_rows, IsRefusal, creates}
+use Rattle.csi_orchestrator.proofs.Words.{RowShown}
 use Rattle.csi_orchestrator.proofs.RowsByName.{shown-nowhere, create-asked}
 use Rattle.csi_orchestrator.proofs.state.OrchestratorCore.create.Goals as goal
 

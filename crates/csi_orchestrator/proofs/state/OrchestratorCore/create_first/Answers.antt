@@ -1,20 +1,10 @@
 -- The new row comes last.
-use Rattle.std.proofs.Common.{◌≡◌, ℕ, List, length, map, sym, ◌∙◌, ap, subst}
-use Rattle.std.specs.Prelude.{Option, Ok}
-use Rattle.std.proofs.lemmas.List.{length-map}
-use Rattle.csi_types.specs.declared.number.Number.{Number}
-use Rattle.csi_orchestrator.specs.declared.row.Row.{Row}
-use Rattle.csi_orchestrator.specs.declared.sending.Outgoing.{Outgoing}
-use Rattle.csi_orchestrator.specs.Public.Catalog.{rows_of}
-use Rattle.csi_orchestrator.specs.Private.Catalog.{IsReady, outgoing_call_number}
-use Rattle.csi_orchestrator.specs.Model.Commands.{next_number}
-use Rattle.csi_orchestrator.specs.Public.CoreParts.{orchestrator_parts_shown}
-use Rattle.csi_orchestrator.specs.Private.RowSteps.{MovedRow, outgoing_by, sent_or_dropped, row_moved, row_sends_due}
-use Rattle.csi_orchestrator.specs.Private.RowChanges.{new_row}
-use Rattle.csi_orchestrator.specs.Private.RowMoves.{last_after}
-use Rattle.csi_orchestrator.specs.Model.Shown.{RowShown, OrchestratorParts}
-use Rattle.csi_orchestrator.specs.Public.Shown.{row_shown}
-use Rattle.csi_orchestrator.specs.Public.RowDue.{due_in}
+use Rattle.csi_orchestrator.proofs.Words.{◌≡◌, ℕ, List, length, map, sym, ◌∙◌, ap, subst, Option, Ok, Number, Row}
+use Rattle.csi_orchestrator.proofs.Words.{Outgoing, rows_of, IsReady, outgoing_call_number, next_number}
+use Rattle.csi_orchestrator.proofs.Words.{orchestrator_parts_shown, MovedRow, outgoing_by, sent_or_dropped, row_moved}
+use Rattle.csi_orchestrator.proofs.Words.{row_sends_due, new_row, last_after, RowShown, OrchestratorParts, row_shown}
+use Rattle.csi_orchestrator.proofs.Words.{due_in}
+use Rattle.csi_orchestrator.proofs.Lemmas.{length-map}
 use Rattle.csi_orchestrator.proofs.RowsByName.{first-told}
 use Rattle.csi_orchestrator.proofs.OpenCalls.{next-created}
 use Rattle.csi_orchestrator.proofs.state.OrchestratorCore.create_first.Goals as goal

@@ -1,11 +1,6 @@
 -- The row that the reply is to takes a step.
-use Rattle.std.proofs.Common.{◌≡◌, Some, None, sym, ◌∙◌, subst}
-use Rattle.csi_types.specs.Model.Frame.{Frame}
-use Rattle.csi_orchestrator.specs.declared.fault.Heard.TheVariants.{Ignored}
-use Rattle.csi_orchestrator.specs.Public.CoreParts.{orchestrator_parts_shown}
-use Rattle.csi_orchestrator.specs.Model.Moves.{Comes, Hears, hears}
-use Rattle.csi_orchestrator.specs.Public.RowMoves.{IsRefusal}
-use Rattle.csi_orchestrator.specs.Private.RowMoves.{RowsAnswer}
+use Rattle.csi_orchestrator.proofs.Words.{◌≡◌, Some, None, sym, ◌∙◌, subst, Frame, Ignored, orchestrator_parts_shown}
+use Rattle.csi_orchestrator.proofs.Words.{Comes, Hears, hears, IsRefusal, RowsAnswer}
 use Rattle.csi_orchestrator.proofs.RepliedPlaces.{delivered, undelivered, told-at_err, never-ignored}
 use Rattle.csi_orchestrator.proofs.state.OrchestratorCore.deliver.Goals as goal
 

@@ -1,6 +1,5 @@
 -- The call is noted, and is the last one then.
-use Rattle.std.proofs.Common.{ap, arith}
-use Rattle.csi_orchestrator.specs.Private.Catalog.{outgoing_call_number}
+use Rattle.csi_orchestrator.proofs.Words.{ap, arith, outgoing_call_number}
 use Rattle.csi_orchestrator.proofs.state.OrchestratorCore.issue.Goals as goal
 
 pub returns-in-Some-clause-filed : goal.returns-in-Some-clause-filed

@@ -1,9 +1,6 @@
 -- The session begins without the node, and then its rows are as they are after a loss.
-use Rattle.std.proofs.Common.{◌∙◌, List, ℕ, Ok, map, not, rules}
-use Rattle.std.proofs.lemmas.Fn.{filter_same}
-use Rattle.csi_types.specs.Model.Same.{same_text}
-use Rattle.csi_orchestrator.specs.Public.Catalog.{rows_of}
-use Rattle.csi_orchestrator.specs.Public.Shown.{row_shown}
+use Rattle.csi_orchestrator.proofs.Words.{◌∙◌, List, ℕ, Ok, map, not, rules, same_text, rows_of, row_shown}
+use Rattle.csi_orchestrator.proofs.Lemmas.{filter_same}
 use Rattle.csi_orchestrator.proofs.BeginningsTold.{loss-told, lost-parts}
 use Rattle.csi_orchestrator.proofs.state.OrchestratorCore.lose.Goals as goal
 

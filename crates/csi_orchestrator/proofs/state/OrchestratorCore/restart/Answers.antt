@@ -1,9 +1,5 @@
 -- The session begins with the new nodes.
-use Rattle.std.proofs.Common.{◌≡◌, List, ℕ, Ok, subst, map}
-use Rattle.std.specs.Prelude.{None}
-use Rattle.csi_orchestrator.specs.declared.row.Row.{Row}
-use Rattle.csi_orchestrator.specs.Public.Beginning.{restart_refusal}
-use Rattle.csi_orchestrator.specs.Public.Shown.{row_shown}
+use Rattle.csi_orchestrator.proofs.Words.{◌≡◌, List, ℕ, Ok, subst, map, None, Row, restart_refusal, row_shown}
 use Rattle.csi_orchestrator.proofs.BeginningsTold.{restart-told, restarted-parts}
 use Rattle.csi_orchestrator.proofs.state.OrchestratorCore.restart.Goals as goal
 

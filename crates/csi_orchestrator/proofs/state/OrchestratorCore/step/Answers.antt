@@ -1,9 +1,6 @@
 -- By the row at the index.
-use Rattle.std.proofs.Common.{ℕ, List, sym, ◌∙◌, ap, subst}
-use Rattle.csi_orchestrator.specs.Public.CoreParts.{orchestrator_parts_shown}
-use Rattle.csi_orchestrator.specs.Private.RowSteps.{row_step, SendsNothing}
-use Rattle.csi_orchestrator.specs.Public.RowMoves.{IsRefusal}
-use Rattle.csi_orchestrator.specs.Public.Shown.{row_shown}
+use Rattle.csi_orchestrator.proofs.Words.{ℕ, List, sym, ◌∙◌, ap, subst, orchestrator_parts_shown, row_step}
+use Rattle.csi_orchestrator.proofs.Words.{SendsNothing, IsRefusal, row_shown}
 use Rattle.csi_orchestrator.proofs.RowsByName.{step-refused, step-told, step-quiet, rows-stay}
 use Rattle.csi_orchestrator.proofs.RowsUnderNames.{within-set, indexed-refused}
 use Rattle.csi_orchestrator.proofs.OpenCalls.{ready-told}

@@ -1,9 +1,6 @@
 -- By the four comparisons.
-use Rattle.std.proofs.Common.{◌≡◌, ◌∙◌, ap, rules}
-use Rattle.std.specs.Ordering.{ordering_then, nat_cmp}
-use Rattle.std.specs.Option.{option_cmp}
-use Rattle.csi_orchestrator.specs.Model.Thing.{name_in}
-use Rattle.csi_orchestrator.specs.Public.Listing.{node_of_thing, target_of_thing, kind_place, text_order}
+use Rattle.csi_orchestrator.proofs.Words.{◌≡◌, ◌∙◌, ap, rules, ordering_then, nat_cmp, option_cmp, name_in}
+use Rattle.csi_orchestrator.proofs.Words.{node_of_thing, target_of_thing, kind_place, text_order}
 use Rattle.csi_orchestrator.proofs.thing.Thing.compare.Goals as goal
 
 pub returns : goal.returns

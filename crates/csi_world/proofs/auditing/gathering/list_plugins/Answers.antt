@@ -1,9 +1,8 @@
 -- One node's lists more, by what each reader says.
-use Rattle.std.proofs.Common.{◌≡◌, ◌+◌, List, [], ◌∷◌, ◌++◌, map, take, ap, sym, ◌∙◌, subst}
-use Rattle.std.proofs.lemmas.List.{take_more, map-append}
-use Rattle.csi_node.specs.Model.Record.{NodeParts}
-use Rattle.csi_world.specs.Model.World.{NodeAt}
-use Rattle.csi_world.specs.Private.Listed.{AreDistinctTexts, node_listed, AreListsOf}
+use Rattle.csi_world.proofs.Words.{◌≡◌, ◌+◌, List, [], ◌∷◌, ◌++◌, map, take, ap, sym, ◌∙◌, subst, NodeParts, NodeAt}
+use Rattle.csi_world.proofs.Words.{AreDistinctTexts, node_listed, AreListsOf}
+use Rattle.csi_world.proofs.Lemmas.{take_more}
+use Rattle.std.proofs.lemmas.List.{map-append}
 use Rattle.csi_world.proofs.ListedNodes.{lists-alike, lists-more, shown-ids}
 use Rattle.csi_world.proofs.WholeLists.{take-whole}
 use Rattle.csi_world.proofs.auditing.gathering.list_plugins.Goals as goal

@@ -1,8 +1,6 @@
 -- By where the row is.
-use Rattle.std.proofs.Common.{Bool, ◌==◌, sym, ◌∙◌}
-use Rattle.csi_controller.specs.declared.row.ControllerRow.{ControllerRow}
-use Rattle.csi_lists.proofs.Places.{FirstAt-position, FirstAt-find}
-use Rattle.csi_lists.proofs.Searches.{find-no_place}
+use Rattle.csi_world.proofs.Words.{Bool, ◌==◌, sym, ◌∙◌, ControllerRow}
+use Rattle.csi_world.proofs.Lemmas.{FirstAt-position, FirstAt-find, find-no_place}
 use Rattle.csi_world.proofs.auditing.halving.find_row.Goals as goal
 
 pub returns-in-Some : goal.returns-in-Some

@@ -1,9 +1,7 @@
 -- By what halving tells.
-use Rattle.std.proofs.Common.{rules, ◌∙◌}
+use Rattle.csi_world.proofs.Words.{◌∙◌, Thing, Known, thing_order}
+use Rattle.std.proofs.Common.{rules}
 use Rattle.std.proofs.lemmas.Fn.{always_returns_same}
-use Rattle.csi_orchestrator.specs.declared.thing.Thing.{Thing}
-use Rattle.csi_orchestrator.specs.declared.thing.Known.{Known}
-use Rattle.csi_orchestrator.specs.Public.Listing.{thing_order}
 use Rattle.csi_world.proofs.FoundByHalving.{noted-place}
 use Rattle.csi_world.proofs.auditing.halving.place_of_noted.Goals as goal
 

@@ -1,8 +1,5 @@
 -- The first entries are affirmed.
-use Rattle.std.proofs.Common.{◌≡◌, List, map, take, true}
-use Rattle.std.specs.List.{list_all}
-use Rattle.csi_orchestrator.specs.declared.thing.Thing.{Thing}
-use Rattle.csi_world.specs.Private.Listed.{is_entry_listed, is_affirmed}
+use Rattle.csi_world.proofs.Words.{◌≡◌, List, map, take, true, list_all, Thing, is_entry_listed, is_affirmed}
 use Rattle.csi_world.proofs.auditing.marks.are_affirmed.Given as goal
 
 abbrev pub invariant-loop-place : goal.invariant-loop-place

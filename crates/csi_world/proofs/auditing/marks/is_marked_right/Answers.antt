@@ -1,9 +1,7 @@
 -- By both lists.
-use Rattle.std.proofs.Common.{Bool, ◌&&◌, ◌∙◌}
+use Rattle.csi_world.proofs.Words.{Bool, ◌&&◌, ◌∙◌, list_all, is_affirmed, is_noted}
 use Rattle.std.proofs.lemmas.Result.{IfOk-weaker}
-use Rattle.std.specs.List.{list_all}
 use Rattle.csi_orchestrator.specs.Model.Shown.{orchestrator_view}
-use Rattle.csi_world.specs.Private.Listed.{is_affirmed, is_noted}
 use Rattle.csi_world.proofs.MarksTold.{marked-told}
 use Rattle.csi_world.proofs.auditing.marks.is_marked_right.Goals as goal
 

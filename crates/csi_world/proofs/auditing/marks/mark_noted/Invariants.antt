@@ -1,7 +1,5 @@
 -- Something is noted of the first things, and their entries are marked.
-use Rattle.std.proofs.Common.{◌≡◌, map, take, true}
-use Rattle.std.specs.List.{list_all}
-use Rattle.csi_world.specs.Private.Listed.{is_entry_listed, is_noted}
+use Rattle.csi_world.proofs.Words.{◌≡◌, map, take, true, list_all, is_entry_listed, is_noted}
 use Rattle.csi_world.proofs.auditing.marks.mark_noted.Given as goal
 
 abbrev pub invariant-loop-thing : goal.invariant-loop-thing

@@ -1,10 +1,7 @@
 -- One node more, and by the plugins' laws.
-use Rattle.std.proofs.Common.{◌≡◌, ◌+◌, List, [], ◌∷◌, ◌++◌, take, ap, sym, ◌∙◌, subst}
-use Rattle.std.specs.List.{AllByRecursion}
-use Rattle.std.proofs.lemmas.List.{take_more}
-use Rattle.csi_lists.proofs.Each.{each-append_one}
-use Rattle.csi_node.specs.Model.Record.{NodeParts}
-use Rattle.csi_world.specs.Private.Listed.{IsPublishing}
+use Rattle.csi_world.proofs.Words.{◌≡◌, ◌+◌, List, [], ◌∷◌, ◌++◌, take, ap, sym, ◌∙◌, subst, AllByRecursion, NodeParts}
+use Rattle.csi_world.proofs.Words.{IsPublishing}
+use Rattle.csi_world.proofs.Lemmas.{take_more, each-append_one}
 use Rattle.csi_world.proofs.PartsSafe.{plugins-safe}
 use Rattle.csi_world.proofs.WholeLists.{take-whole}
 use Rattle.csi_world.proofs.auditing.safety.plugins_are_safe.Goals as goal

@@ -1,7 +1,5 @@
 -- All is attached at the nodes that are left exactly where it is at all.
-use Rattle.std.proofs.Common.{◌≡◌, drop}
-use Rattle.std.specs.List.{list_all}
-use Rattle.csi_world.specs.Private.Listed.{is_node_attached}
+use Rattle.csi_world.proofs.Words.{◌≡◌, drop, list_all, is_node_attached}
 use Rattle.csi_world.proofs.auditing.staging.are_attached.Given as goal
 
 abbrev pub invariant-loop-node : goal.invariant-loop-node

@@ -1,7 +1,5 @@
 -- All that is left is attached so exactly where all is.
-use Rattle.std.proofs.Common.{◌≡◌, drop}
-use Rattle.std.specs.List.{list_all}
-use Rattle.csi_world.specs.Private.Listed.{is_staged_right}
+use Rattle.csi_world.proofs.Words.{◌≡◌, drop, list_all, is_staged_right}
 use Rattle.csi_world.proofs.auditing.staging.is_attached_at.Given as goal
 
 abbrev pub invariant-loop-staged : goal.invariant-loop-staged

@@ -1,7 +1,5 @@
 -- One of the holdings that are left is so exactly where one of all is.
-use Rattle.std.proofs.Common.{◌≡◌, drop}
-use Rattle.std.specs.List.{list_any}
-use Rattle.csi_world.specs.Private.Listed.{is_held_as}
+use Rattle.csi_world.proofs.Words.{◌≡◌, drop, list_any, is_held_as}
 use Rattle.csi_world.proofs.auditing.staging.is_held_in.Given as goal
 
 abbrev pub invariant-loop-held : goal.invariant-loop-held

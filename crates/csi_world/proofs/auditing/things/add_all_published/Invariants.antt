@@ -1,7 +1,5 @@
 -- Those of the first ones were added.
-use Rattle.std.proofs.Common.{◌≡◌, ◌++◌, take}
-use Rattle.std.specs.List.{flat_map}
-use Rattle.csi_world.specs.Private.Listed.{published_thing}
+use Rattle.csi_world.proofs.Words.{◌≡◌, ◌++◌, take, flat_map, published_thing}
 use Rattle.csi_world.proofs.auditing.things.add_all_published.Given as goal
 
 abbrev pub invariant-loop-entry : goal.invariant-loop-entry

@@ -1,7 +1,5 @@
 -- Those of the first ones were added.
-use Rattle.std.proofs.Common.{◌≡◌, ◌++◌, take}
-use Rattle.std.specs.List.{flat_map}
-use Rattle.csi_world.specs.Private.Listed.{staged_thing}
+use Rattle.csi_world.proofs.Words.{◌≡◌, ◌++◌, take, flat_map, staged_thing}
 use Rattle.csi_world.proofs.auditing.things.add_all_staged.Given as goal
 
 abbrev pub invariant-loop-entry : goal.invariant-loop-entry

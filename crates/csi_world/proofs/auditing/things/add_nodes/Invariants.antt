@@ -1,7 +1,5 @@
 -- Those of the first ones were added.
-use Rattle.std.proofs.Common.{◌≡◌, ◌++◌, take}
-use Rattle.std.specs.List.{flat_map}
-use Rattle.csi_world.specs.Private.Listed.{things_at}
+use Rattle.csi_world.proofs.Words.{◌≡◌, ◌++◌, take, flat_map, things_at}
 use Rattle.csi_world.proofs.auditing.things.add_nodes.Given as goal
 
 abbrev pub invariant-loop-node : goal.invariant-loop-node

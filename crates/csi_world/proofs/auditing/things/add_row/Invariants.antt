@@ -1,6 +1,5 @@
 -- Whether it exists was added, and where it is attached by the first holdings.
-use Rattle.std.proofs.Common.{◌≡◌, ◌++◌, take, map}
-use Rattle.csi_world.specs.Private.Listed.{exists_thing, attached_thing}
+use Rattle.csi_world.proofs.Words.{◌≡◌, ◌++◌, take, map, exists_thing, attached_thing}
 use Rattle.csi_world.proofs.auditing.things.add_row.Given as goal
 
 abbrev pub invariant-loop-held : goal.invariant-loop-held

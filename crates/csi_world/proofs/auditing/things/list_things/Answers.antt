@@ -1,9 +1,6 @@
 -- What is listed is what holds.
-use Rattle.std.proofs.Common.{List, sym, subst}
+use Rattle.csi_world.proofs.Words.{List, sym, subst, Thing, IsAmong, Lists}
 use Rattle.std.proofs.lemmas.Result.{IfOk-weaker}
-use Rattle.csi_orchestrator.specs.declared.thing.Thing.{Thing}
-use Rattle.csi_lists.specs.Model.Members.{IsAmong}
-use Rattle.csi_world.specs.Private.Listed.{Lists}
 use Rattle.csi_world.proofs.ThingsHeld.{listed-then-holds, holds-then-listed}
 use Rattle.csi_world.proofs.auditing.things.list_things.Goals as goal
 

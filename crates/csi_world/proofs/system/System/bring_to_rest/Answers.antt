@@ -1,6 +1,5 @@
 -- By whether something is wanted then.
-use Rattle.std.proofs.Common.{sym, ◌∙◌}
-use Rattle.csi_world.specs.Model.After.{settling_way}
+use Rattle.csi_world.proofs.Words.{sym, ◌∙◌, settling_way}
 use Rattle.csi_world.specs.Public.System.{world_parts}
 use Rattle.csi_world.proofs.OnItsWay.{told-wanted, told-at-rest}
 use Rattle.csi_world.proofs.system.System.bring_to_rest.Goals as goal

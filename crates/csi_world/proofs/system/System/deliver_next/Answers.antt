@@ -1,9 +1,6 @@
 -- One more, until none is to be delivered.
-use Rattle.std.proofs.Common.{◌≡◌, ◌+◌, refl, sym, ◌∙◌, subst, arith}
+use Rattle.csi_world.proofs.Words.{◌≡◌, ◌+◌, refl, sym, ◌∙◌, subst, arith, after, deliveries, WentOn}
 use Rattle.csi_world.specs.Public.System.{world_parts}
-use Rattle.csi_world.specs.Model.After.{after}
-use Rattle.csi_world.specs.Public.Settling.{deliveries}
-use Rattle.csi_world.specs.Private.Settling.{WentOn}
 use Rattle.csi_world.proofs.SettledEvents.{none-delivered, delivered-all, delivered-more, delivered-twelve, ends-there, goes-there, make-same, make-then}
 use Rattle.csi_world.proofs.system.System.deliver_next.Goals as goal
 

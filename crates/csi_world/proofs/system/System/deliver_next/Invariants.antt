@@ -1,9 +1,5 @@
 -- So many were delivered.
-use Rattle.std.proofs.Common.{List}
-use Rattle.csi_types.specs.declared.event.Event.{Event}
-use Rattle.csi_types.specs.Model.Config.{Config}
-use Rattle.csi_world.specs.Private.Settling.{IsOfOneMake}
-use Rattle.csi_world.specs.Private.Simulating.{IsRun}
+use Rattle.csi_world.proofs.Words.{List, Event, Config, IsOfOneMake, IsRun}
 use Rattle.csi_world.specs.Public.System.{world_parts}
 use Rattle.csi_world.proofs.SettledEvents.{HasDelivered}
 use Rattle.csi_world.proofs.system.System.deliver_next.Given as goal

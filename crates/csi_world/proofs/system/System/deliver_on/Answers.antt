@@ -1,8 +1,6 @@
 -- One more, until none is to be delivered.
-use Rattle.std.proofs.Common.{◌≡◌, ◌+◌, refl, sym, ◌∙◌, subst, arith}
+use Rattle.csi_world.proofs.Words.{◌≡◌, ◌+◌, refl, sym, ◌∙◌, subst, arith, delivered_on, CameOn}
 use Rattle.csi_world.specs.Public.System.{world_parts}
-use Rattle.csi_world.specs.Model.After.{delivered_on}
-use Rattle.csi_world.specs.Private.Settling.{CameOn}
 use Rattle.csi_world.proofs.OnItsWay.{on-first, on-ended, on-more, on-twelve}
 use Rattle.csi_world.proofs.SettledEvents.{ends-there, goes-there}
 use Rattle.csi_world.proofs.system.System.deliver_on.Goals as goal

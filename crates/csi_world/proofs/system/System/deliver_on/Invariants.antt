@@ -1,7 +1,5 @@
 -- So many were delivered.
-use Rattle.csi_world.specs.Model.World.{World}
-use Rattle.csi_world.specs.Model.Simulated.{ShowsWorld}
-use Rattle.csi_world.specs.Public.Simulating.{IsSoundWorld}
+use Rattle.csi_world.proofs.Words.{World, ShowsWorld, IsSoundWorld}
 use Rattle.csi_world.specs.Public.System.{world_parts}
 use Rattle.csi_world.proofs.OnItsWay.{IsOn}
 use Rattle.csi_world.proofs.system.System.deliver_on.Given as goal

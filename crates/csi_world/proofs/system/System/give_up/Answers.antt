@@ -1,10 +1,8 @@
 -- The orchestrator gives the node up, which is no more then.
-use Rattle.std.proofs.Common.{◌≡◌, refl, List, ℕ, None, Some, Option, sym, ◌∙◌, subst}
-use Rattle.csi_node.specs.Model.Record.{NodeParts}
-use Rattle.csi_orchestrator.specs.Model.Moves.{Loses, moves}
+use Rattle.csi_world.proofs.Words.{◌≡◌, refl, List, ℕ, None, Some, Option, sym, ◌∙◌, subst, NodeParts, moves, lost_by}
+use Rattle.csi_world.proofs.Words.{IsWorldAfter}
+use Rattle.csi_orchestrator.specs.Model.Moves.{Loses}
 use Rattle.csi_world.specs.declared.outcomes.Outcome.TheVariants as outcomes
-use Rattle.csi_world.specs.Model.After.{lost_by}
-use Rattle.csi_world.specs.Private.Simulating.{IsWorldAfter}
 use Rattle.csi_world.specs.Public.System.{world_parts}
 use Rattle.csi_world.proofs.SystemChanges.{gives-up, taken-left, none-left}
 use Rattle.csi_world.proofs.system.System.give_up.Goals as goal

@@ -1,6 +1,5 @@
 -- The frame comes to the orchestrator.
-use Rattle.std.proofs.Common.{refl}
-use Rattle.csi_orchestrator.specs.Model.Moves.{Comes, Hears}
+use Rattle.csi_world.proofs.Words.{refl, Comes, Hears}
 use Rattle.csi_world.specs.Public.System.{world_parts}
 use Rattle.csi_world.proofs.SystemInputs.{input-becomes}
 use Rattle.csi_world.proofs.system.System.hear.Goals as goal

@@ -1,10 +1,8 @@
 -- The node stands after the others.
-use Rattle.std.proofs.Common.{◌≡◌, List, [], ◌∷◌, ◌++◌, rules, sym, ◌∙◌, ap, subst}
-use Rattle.csi_node.specs.Model.Record.{NodeParts}
+use Rattle.csi_world.proofs.Words.{◌≡◌, List, [], ◌∷◌, ◌++◌, sym, ◌∙◌, ap, subst, NodeParts, node_state, joined_at}
+use Rattle.csi_world.proofs.Words.{IsWorldAfter, new_node_parts}
+use Rattle.std.proofs.Common.{rules}
 use Rattle.csi_world.specs.declared.outcomes.Outcome.TheVariants as outcomes
-use Rattle.csi_world.specs.Model.World.{node_state}
-use Rattle.csi_world.specs.Model.After.{joined_at}
-use Rattle.csi_world.specs.Private.Simulating.{IsWorldAfter, new_node_parts}
 use Rattle.csi_world.specs.Public.System.{world_parts}
 use Rattle.csi_world.proofs.SystemChanges.{node-joins, there-joins}
 use Rattle.csi_world.proofs.system.System.join.Goals as goal

@@ -1,11 +1,7 @@
 -- A node that is there or listed is given up.
-use Rattle.std.proofs.Common.{◌≡◌, true, false, ◌||◌, is_some, position, sym, ◌∙◌, ap, subst}
-use Rattle.std.proofs.lemmas.Bool.{false≢true}
-use Rattle.std.specs.List.{list_any}
-use Rattle.std.specs.Result.{IfOk}
-use Rattle.csi_types.specs.Model.Same.{same_text}
-use Rattle.csi_world.specs.Model.After.{Occurred}
-use Rattle.csi_world.specs.Private.Simulating.{IsWorldAfter}
+use Rattle.csi_world.proofs.Words.{◌≡◌, true, false, ◌||◌, is_some, position, sym, ◌∙◌, ap, subst, list_any, IfOk}
+use Rattle.csi_world.proofs.Words.{same_text, Occurred, IsWorldAfter}
+use Rattle.csi_world.proofs.Lemmas.{false≢true}
 use Rattle.csi_world.specs.Public.System.{world_parts}
 use Rattle.csi_world.proofs.SystemNodes.{is_shown_node}
 use Rattle.csi_world.proofs.SystemChanges.{node-known, lost-known, lost-nowhere}

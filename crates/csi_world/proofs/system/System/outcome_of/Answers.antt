@@ -1,6 +1,5 @@
 -- A stop is one by its parts.
-use Rattle.std.proofs.Common.{sym, ap}
-use Rattle.csi_world.specs.Model.After.{occurs}
+use Rattle.csi_world.proofs.Words.{sym, ap, occurs}
 use Rattle.csi_world.specs.Public.System.{world_parts}
 use Rattle.csi_world.proofs.SystemInputs.{occurred-as}
 use Rattle.csi_world.proofs.system.System.outcome_of.Goals as goal

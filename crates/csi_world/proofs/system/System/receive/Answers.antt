@@ -1,8 +1,5 @@
 -- What is read is the frame that the bytes spell, by the decoder's promise of every frame.
-use Rattle.std.proofs.Common.{◌≡◌, ℕ, length, IfOk, ap, subst}
-use Rattle.csi_types.specs.Model.Frame.{Frame}
-use Rattle.csi_world.specs.Model.After.{delivered_body}
-use Rattle.csi_world.specs.Private.Simulating.{IsWorldAfter}
+use Rattle.csi_world.proofs.Words.{◌≡◌, ℕ, length, IfOk, ap, subst, Frame, delivered_body, IsWorldAfter}
 use Rattle.csi_world.specs.Public.System.{world_parts}
 use Rattle.csi_world.proofs.CarriedFrames.{begins-whole, only-value}
 use Rattle.csi_world.proofs.system.System.receive.Goals as goal

@@ -1,8 +1,6 @@
 -- The controller has the configuration.
-use Rattle.std.proofs.Common.{sym, subst}
-use Rattle.csi_types.specs.Model.Config.{Config}
+use Rattle.csi_world.proofs.Words.{sym, subst, Config, IsWorldAfter}
 use Rattle.csi_world.specs.Public.System.{world_parts}
-use Rattle.csi_world.specs.Private.Simulating.{IsWorldAfter}
 use Rattle.csi_world.specs.declared.outcomes.Outcome.TheVariants as outcomes
 use Rattle.csi_world.proofs.SystemChanges.{configured}
 use Rattle.csi_world.proofs.system.System.restart_controller_with.Goals as goal

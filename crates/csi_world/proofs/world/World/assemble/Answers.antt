@@ -1,8 +1,6 @@
 -- No two of the records are of one node, and so are the parts.
-use Rattle.std.proofs.Common.{◌≡◌, false, None, List, rules, subst, sym}
-use Rattle.csi_types.specs.Public.Config.{config_fault}
-use Rattle.csi_node.specs.Model.Record.{NodeParts}
-use Rattle.csi_world.specs.Public.Simulating.{has_same_id}
+use Rattle.csi_world.proofs.Words.{◌≡◌, false, None, List, subst, sym, config_fault, NodeParts, has_same_id}
+use Rattle.std.proofs.Common.{rules}
 use Rattle.csi_world.proofs.world.World.assemble.Goals as goal
 
 pub of-requires : goal.of-requires

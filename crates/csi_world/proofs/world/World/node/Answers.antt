@@ -1,10 +1,6 @@
 -- The node of an id shows what the node of that id in the world knows.
-use Rattle.std.proofs.Common.{◌≡◌, find, Option, sym, ◌∙◌, ap, subst}
+use Rattle.csi_world.proofs.Words.{◌≡◌, find, Option, sym, ◌∙◌, ap, subst, NodeParts, node_state, WorldParts, ShowsNode}
 use Rattle.std.specs.Option.{option_copied}
-use Rattle.csi_node.specs.Model.Record.{NodeParts}
-use Rattle.csi_world.specs.Model.World.{node_state}
-use Rattle.csi_world.specs.Model.Simulated.{WorldParts}
-use Rattle.csi_world.specs.Public.Simulating.{ShowsNode}
 use Rattle.csi_world.proofs.SystemNodes.{is_shown_node, node-shown}
 use Rattle.csi_world.proofs.world.World.node.Goals as goal
 

@@ -1,12 +1,6 @@
 -- The world went on by these events.
-use Rattle.std.proofs.Common.{◌≡◌, ◌++◌, List, sym, ◌∙◌, subst}
-use Rattle.csi_types.specs.declared.event.Event.{Event}
-use Rattle.csi_types.specs.Model.Config.{Config}
-use Rattle.csi_world.specs.Model.After.{after}
-use Rattle.csi_world.specs.Public.Settling.{settling}
-use Rattle.csi_world.specs.Model.Simulated.{WorldParts, ShowsRun}
-use Rattle.csi_world.specs.Private.Simulating.{IsRun}
-use Rattle.csi_world.specs.Public.Simulating.{IsSoundWorld}
+use Rattle.csi_world.proofs.Words.{◌≡◌, ◌++◌, List, sym, ◌∙◌, subst, Event, Config, after, settling, WorldParts}
+use Rattle.csi_world.proofs.Words.{ShowsRun, IsRun, IsSoundWorld}
 use Rattle.csi_world.specs.Public.System.{world_parts}
 use Rattle.csi_world.proofs.SettledEvents.{sound-stays, rest-then}
 use Rattle.csi_world.proofs.world.World.settle.Goals as goal
