@@ -92,7 +92,8 @@ impl Plugin for Node {
 impl PluginService<Node> {
     ghost use Rattle.std.specs.Prelude.{◌≡◌, ◌∷◌, ℕ, Some, [], map, IfOk, IfErr};
     ghost use Rattle.csi_node.specs.Model.OneRow.{node_row_shown};
-    ghost use Rattle.csi_node.specs.Model.Record.{parts as shown_rows};
+    ghost use Rattle.csi_node.specs.Model.Record.{parts as shown_rows, Shows};
+    ghost use Rattle.csi_node.specs.Model.State.{NodeState};
     ghost use Rattle.csi_records.specs.Public.Spelling.{present, node_parts};
     ghost use Rattle.csi_service.specs.Public.Plugins.{IsFrom};
     ghost use Rattle.csi_service.specs.Public.NodeOpening.{joined_head, HasNode, IsNodeUnopened, LeavesNode, RefusesForeign};
@@ -121,7 +122,9 @@ impl PluginService<Node> {
 
     /// The node's record as a value. A refusal is one of memory, and leaves the node as it is.
     pub fn record(&self) -> Result<NodeRecord, NoMemory>
-        ensures { IfOk result (λ kept. node_parts present kept.id (Some kept.session) (map node_row_shown kept.rows) ≡ node_service_parts self.now) }
+        ensures parts { IfOk result (λ kept. node_parts present kept.id (Some kept.session) (map node_row_shown kept.rows) ≡ node_service_parts self.now) }
+        ensures id { IfOk result (λ kept. kept.id ≡ self.now.plugin.id) }
+        ensures shows { (state : NodeState) → Shows self.now.plugin state → IfOk result (λ kept. Shows kept state) }
     {
         match self.plugin.record() {
             Ok(kept) => Ok(kept),

@@ -105,6 +105,27 @@ impl OrchestratorService {
         }
     }
 
+    /// The same of a record that no store has yet: all of it is told as changed, to a store that has nothing.
+    pub fn from_new_record(
+        alloc: Global,
+        kept: OrchestratorRecord,
+        nodes: Vec<NodeId>,
+    ) -> Result<OrchestratorService, OrchestratorUnopened>
+        ensures has { IfOk result (λ service. service.orchestrator ≡ opened_parts kept nodes.items) }
+        ensures changes { IfOk result (λ service. orchestrator_service_changes service ≡ put_all (orchestrator_service_parts service)) }
+        ensures fit { OnOk result (AreNodesFit nodes.items) }
+        ensures unrefused { OnOk result (opening_refusal kept nodes.items ≡ None) }
+        ensures refused { IfErr result (IsRecordUnopened kept nodes.items) }
+    {
+        match OrchestratorService::from_record(alloc, kept, nodes) {
+            Ok(mut service) => {
+                service.changed = OrchestratorChanged::Whole(0);
+                Ok(service)
+            }
+            Err(why) => Err(why),
+        }
+    }
+
     // The same of nodes that are fit.
     pub(crate) fn of_record(
         alloc: Global,
