@@ -16,9 +16,9 @@ use Rattle.csi_orchestrator.specs.declared.fault.OrchRecordFault.TheVariants as 
 use Rattle.csi_orchestrator.specs.Public.Judging.{IsFirstRefused}
 use Rattle.csi_orchestrator.specs.Public.Record.{IsRecordRefusal}
 use Rattle.csi_orchestrator.specs.Public.Restored.{AreRestorable}
+use Rattle.csi_world.specs.Public.Recovered.{GivenNode, recovered_rows, Agree, MayRecover}
 use Rattle.csi_recovery.specs.declared.fault.RecoveryFault.{RecoveryFault}
 use Rattle.csi_recovery.specs.declared.fault.RecoveryFault.TheVariants.{SameNode, NotLater, Disagrees, BadNodes, BadRow, NoMemory}
-use Rattle.csi_recovery.specs.Public.Recovered.{GivenNode, recovered_rows, Agree, MayRecover}
 use Rattle.csi_recovery.specs.Public.Judged.{IsKeptOf, IsGiven, AreGiven, AreApart, DoAgree, IsLater, AreFit, IsNotFree, IsUnfit, IsRecoveryRefusal}
 use Rattle.csi_recovery.specs.Private.Walks.{passed_on}
 use Rattle.csi_recovery.proofs.Given.{record-among, node-among}

@@ -1,3 +1,2 @@
-pub mod Recovered
 pub mod Judged
 pub mod Session

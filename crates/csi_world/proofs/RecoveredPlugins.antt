@@ -41,9 +41,9 @@ use Rattle.csi_orchestrator.specs.Model.Readings.{issued_in, last_number}
 use Rattle.csi_orchestrator.specs.Model.WellFormed.{IsWellFormed}
 use Rattle.csi_orchestrator.specs.Model.Shown.{Shows}
 use Rattle.csi_orchestrator.proofs.AllTold.{AreTold, started-told}
-use Rattle.csi_recovery.specs.Public.Recovered.{GivenNode, given_state, recovered_rows, recovered, MayRecover}
 use Rattle.csi_world.specs.Model.World.{NodeAt, World, node_state}
 use Rattle.csi_world.specs.Model.Safe.{Safe}
+use Rattle.csi_world.specs.Public.Recovered.{GivenNode, given_state, recovered_rows, recovered, MayRecover}
 use Rattle.csi_world.specs.Public.Recovery.{is_given, given_of}
 use Rattle.csi_world.proofs.WorldView.{node_view, over_at, view_of}
 use Rattle.csi_world.proofs.GivenIds.{GivenId, HasNow, HasOld, HasName, AreGiven, AreOf}

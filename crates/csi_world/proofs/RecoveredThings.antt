@@ -31,8 +31,8 @@ use Rattle.csi_orchestrator.specs.Model.Readings as readings
 use Rattle.csi_orchestrator.specs.Model.Readings.{issued_in, known_by, known, last_number}
 use Rattle.csi_orchestrator.specs.Model.Shown.{NodeEntryShown, RowShown, row_of, node_entry_of, mark_in, mark_of, publication_known}
 use Rattle.csi_orchestrator.specs.Public.Restored.{IsRestorable}
-use Rattle.csi_recovery.specs.Public.Recovered.{given_state, target_of, entry_by, entry_at, entry_of, recovered_row, recovered_rows}
 use Rattle.csi_world.specs.Model.World.{node_state}
+use Rattle.csi_world.specs.Public.Recovered.{given_state, target_of, entry_by, entry_at, entry_of, recovered_row, recovered_rows}
 use Rattle.csi_world.proofs.WorldView.{node_view, over_at}
 use Rattle.csi_world.proofs.GivenIds.{HasNow, HasName}
 use Rattle.csi_world.proofs.CallThings.{IsOwn, IsOne, Existence, Attachment, Staging, Publication, is_of}

@@ -40,8 +40,8 @@ use Rattle.csi_orchestrator.specs.Model.WellFormed.{IsWellFormed}
 use Rattle.csi_orchestrator.specs.Model.Shown.{Shows}
 use Rattle.csi_orchestrator.specs.Public.Steps.{Opens}
 use Rattle.csi_orchestrator.specs.Public.Steps as steps
-use Rattle.csi_recovery.specs.Public.Recovered.{given_state, recovered}
 use Rattle.csi_world.specs.Model.World.{NodeAt, World, node_state}
+use Rattle.csi_world.specs.Public.Recovered.{given_state, recovered}
 use Rattle.csi_world.specs.Public.Recovery.{is_given, given_of, raised_at, recovered_world}
 use Rattle.csi_world.proofs.WorldView.{node_view, over_at}
 use Rattle.csi_world.proofs.GivenIds.{HasNow}

@@ -5,9 +5,9 @@ use Rattle.csi_types.specs.declared.call.Party.TheVariants.{Controller, Node}
 use Rattle.csi_types.specs.Model.Frame.{Frame}
 use Rattle.csi_node.specs.Model.State.{NodeState}
 use Rattle.csi_orchestrator.specs.Model.Readings.{last_number}
-use Rattle.csi_recovery.specs.Public.Recovered.{MayRecover}
 use Rattle.csi_world.specs.Model.World.{World, empty_world, node_state}
 use Rattle.csi_world.specs.Model.Safe.{Safe}
+use Rattle.csi_world.specs.Public.Recovered.{MayRecover}
 use Rattle.csi_world.specs.Public.Recovery.{given_of, node_raised, plugin_raised, recovered_world, Recovers, StaysSafe, RecoveryLaw}
 use Rattle.csi_world.specs.Public.Step.{Choice, MayChooseAll, chosen_all}
 use Rattle.csi_world.proofs.Deliveries.{PluginLaws}

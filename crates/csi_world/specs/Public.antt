@@ -5,6 +5,7 @@ pub mod Settling
 pub mod Simulating
 pub mod System
 pub mod Laws
+pub mod Recovered
 pub mod Recovery
 pub mod Outcomes
 pub mod Stale

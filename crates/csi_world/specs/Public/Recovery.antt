@@ -13,9 +13,9 @@ use Rattle.csi_orchestrator.specs.Model.Readings.{last_number}
 use Rattle.csi_orchestrator.specs.Model.Shown.{Shows}
 use Rattle.csi_orchestrator.specs.Model.WellFormed.{IsWellFormed}
 use Rattle.csi_orchestrator.specs.Public.Steps.{IsReached}
-use Rattle.csi_recovery.specs.Public.Recovered.{GivenNode, recovered, MayRecover}
 use Rattle.csi_world.specs.Model.World.{NodeAt, World, empty_world, node_state, with_node}
 use Rattle.csi_world.specs.Model.Safe.{Safe}
+use Rattle.csi_world.specs.Public.Recovered.{GivenNode, recovered, MayRecover}
 use Rattle.csi_world.specs.Public.Step.{Choice, MayChooseAll, chosen_all}
 
 -- the node's store is given
