@@ -255,7 +255,7 @@ func watched(b testing.TB, kept store.Store, listener net.Listener, known secure
 	log := daemon.LoggerTo(file, zap.InfoLevel)
 	b.Cleanup(func() { keeps.Close(); log.Sync(); file.Close() })
 	made := serveBy(b, host.Options{Store: kept, Carrier: &hosttest.Carrier{}, Log: log, Observers: []host.Observer{told, keeps}}, 8, listener, known, roles,
-		grpc.ChainUnaryInterceptor(told.Server.UnaryServerInterceptor()), grpc.ChainStreamInterceptor(told.Server.StreamServerInterceptor()))
+		grpc.ChainUnaryInterceptor(told.Server.Unary), grpc.ChainStreamInterceptor(told.Server.Stream))
 	leads := func() *host.Host { return made }
 	states := func() map[string]carrying.State {
 		return map[string]carrying.State{carrying.Controller: {Connection: "READY"}}

@@ -4,7 +4,6 @@ import (
 	"net/http"
 	"time"
 
-	grpcprometheus "github.com/grpc-ecosystem/go-grpc-prometheus"
 	"github.com/prometheus/client_golang/prometheus"
 	"google.golang.org/grpc/codes"
 
@@ -15,7 +14,7 @@ import (
 
 // An Orchestrator has the metrics of the orchestrator's service. It is told what happens as a host's observer.
 type Orchestrator struct {
-	Server   *grpcprometheus.ServerMetrics // of the API: its interceptors belong to the server
+	Server   *Server // of the API: its interceptors belong to the server
 	registry *prometheus.Registry
 
 	commands, calls, retries, ignored, sessions, lost *prometheus.CounterVec
@@ -53,7 +52,7 @@ type meters struct {
 // NewOrchestrator makes them.
 func NewOrchestrator() *Orchestrator {
 	made := &Orchestrator{
-		Server:        grpcprometheus.NewServerMetrics(),
+		Server:        newServer(),
 		registry:      newRegistry("tufayon-orchestrator"),
 		commands:      newCounter("", "commands_total", "Commands of callers, by what came of them: sent, met, or a refusal's name.", "kind", "outcome"),
 		calls:         newCounter("", "calls_total", "Calls that ended, by gRPC's name of the reply's status, or none where there was no reply.", "kind", "plugin", "status"),

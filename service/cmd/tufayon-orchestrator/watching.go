@@ -75,7 +75,7 @@ func (running *service) watch() (*watching, error) {
 // options are those of the server of the API.
 func (made *watching) options() []grpc.ServerOption {
 	return []grpc.ServerOption{
-		grpc.ChainUnaryInterceptor(made.metrics.Server.UnaryServerInterceptor()), grpc.ChainStreamInterceptor(made.metrics.Server.StreamServerInterceptor()),
+		grpc.ChainUnaryInterceptor(made.metrics.Server.Unary), grpc.ChainStreamInterceptor(made.metrics.Server.Stream),
 	}
 }
 
