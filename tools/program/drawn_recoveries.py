@@ -238,7 +238,7 @@ def name_is_free(box):
 
 def cases(seed):
     yield from of_rows("recover", [("staged and published nowhere", staged_alone), ("names", name_is_free)])
-    yield Case("recover: sets that agree", lambda box: drawn_sets(box, seed, 40, False))
-    yield Case("recover: sets of which some don't", lambda box: drawn_sets(box, seed, 60, True))
-    for part in range(3):
-        yield Case(f"recover: a shard goes on, {part + 1}", lambda box, part=part: goes_on(box, seed * 3 + part, 4))
+    yield Case("recover: sets that agree", lambda box: drawn_sets(box, seed, 25, False))
+    yield Case("recover: sets of which some don't", lambda box: drawn_sets(box, seed, 40, True))
+    for part in range(2):
+        yield Case(f"recover: a shard goes on, {part + 1}", lambda box, part=part: goes_on(box, seed * 2 + part, 3))

@@ -91,30 +91,31 @@ def whole_run(cut):
 
 
 def killed(box, over):
+    """At each call; over logs that kills left, at each third."""
     cut = Cut(box, over)
     seen = set()
     for name, count in whole_run(cut).items():
-        for at in range(1, count + 1):
+        for at in range(1, count + 1, 1 if over == "closed" else 3):
             cut.fresh()
             inject = f"{name}:signal=KILL:when={at}"
             ran, _ = strace(cut, inject)
             wanted(f"{inject}: it was killed", ran.status, -signal.SIGKILL)
             seen.add(cut.judge(inject, ran))
-    wanted("after how many commits it was killed", seen, set(range(5)))
+    wanted(f"{seen}: after how many commits it was killed, so whether after none, some and all", {0, 4} < seen, True)
 
 
-def failing(box, over):
-    """No room is left at a call, or the device is gone; or from there on."""
-    cut, seen = Cut(box, over), set()
+def failing(box):
+    """No room is left at a call, or the device is gone; or, at every other one, from there on."""
+    cut, seen = Cut(box, "closed"), set()
     for name, count in whole_run(cut).items():
         for at in range(1, count + 1 if name in WRITING else 0):
-            for more in ("", "+"):
-                cut.fresh()
-                inject = f"{name}:error={WRITING[name]}:when={at}{more}"
-                ran, _ = strace(cut, inject)
-                wanted(f"{inject}: {ran}, so whether it is told", ran in (DEVICE, NOT_OPENED), True)
-                seen.add(cut.judge(inject, ran))
-    wanted("after how many commits it failed", seen, set(range(5)))
+            cut.fresh()
+            inject = f"{name}:error={WRITING[name]}:when={at}{'+' if at % 2 else ''}"
+            ran, _ = strace(cut, inject)
+            is_told = (ran.status, ran.error) in [(it.status, it.error) for it in (DEVICE, NOT_OPENED)]
+            wanted(f"{inject}: {ran}, so whether it is told", is_told and ran.out in (b"", cut.made.line), True)
+            seen.add(cut.judge(inject, ran))
+    wanted(f"{seen}: after how many commits it failed, so whether after none, some and all", {0, 4} < seen, True)
 
 
 def by_limit(box):
@@ -124,7 +125,8 @@ def by_limit(box):
         cut.fresh()
         ran = box.run(*cut.it.words(), preexec_fn=limited(size))
         if ran != ended(0, out=cut.made.line):
-            wanted(f"files of {size} bytes: {ran}, so whether it is told", ran in (DEVICE, NOT_OPENED), True)
+            is_told = (ran.status, ran.error) in [(it.status, it.error) for it in (DEVICE, NOT_OPENED)]
+            wanted(f"files of {size} bytes: {ran}, so whether it is told", is_told, True)
         cut.judge(f"files of {size} bytes", ran)
 
 
@@ -152,7 +154,7 @@ def little_memory(box):
         middle = (low + least) // (2 * STEP) * STEP
         low, least = (low, middle) if run(middle) == whole else (middle, least)
     told, seen = 0, set()
-    for limit in range(least - NEAR * STEP, least, STEP):
+    for limit in range(least - NEAR * STEP, least, 2 * STEP):
         ran = run(limit)
         if ran == whole or box.run("--help", preexec_fn=with_memory(limit)).status not in (0, 3):
             continue
@@ -202,9 +204,8 @@ def at_full_size(box):
 
 
 def cases():
-    for over in ("closed", "logs"):
-        yield from of_rows(f"killed: recover over stores that are {over}", [("at each call", killed, over)])
-        yield from of_rows(f"full disk: recover over stores that are {over}", [("at each call", failing, over)])
+    yield from of_rows("killed: recover over stores", [("that are closed", killed, "closed"), ("that have logs", killed, "logs")])
+    yield Case("full disk: recover, at each call", failing)
     yield Case("full disk: recover, a limit", by_limit)
     yield Case("output: recover", output)
     yield Case("memory: recover has little of it", little_memory)
