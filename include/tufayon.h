@@ -57,12 +57,12 @@
  * TUFAYON_IGNORED, what the handle has and its changes stay as they were: no call leaves anything half done, and after TUFAYON_NO_MEMORY it may be
  * made again. That this number comes only where an allocation was refused isn't proved: tools/library tests that each call succeeds where none is.
  *
- * What a call says beside its number (`used`, `written`, `key`, `fault`, `known`, and the bytes in a room) it writes only with the numbers of which its
+ * What a call says beside its number (`used`, `written`, `key`, `fault`, `known`, `session`, `place`, and the bytes in a room) it writes only with the numbers of which its
  * text says so. With any other these stay as they were, but for `used` of tufayon_deliver, which says nothing with TUFAYON_NO_MEMORY; and with
  * TUFAYON_NO_ROOM no byte of a frame was taken. Bytes of a room behind those that were written stay too. That they stay isn't proved: tools/library tests
  * it at each call.
  *
- * What is proved of each call stands in crates/csi_embedded/src, at its name in the three files *exports.rt, where it is checked. It supposes of the
+ * What is proved of each call stands in crates/csi_embedded/src, at its name in the files *exports.rt, where it is checked. It supposes of the
  * calling program:
  *
  *   Pointers. None is null, even if a size is 0. Each points to as many bytes as its size says, or to one value. Nothing else uses these during
@@ -116,6 +116,10 @@ extern "C" {
 #define TUFAYON_EARLIER_SESSION 16 /* the record is of an earlier session than that of the node's joining: it is a lost node's */
 #define TUFAYON_NODE_IN_USE 17 /* a volume may be attached at a node of the record that the configuration leaves out */
 #define TUFAYON_OLDER_STORE 18 /* a plugin said of an open call that it was stale: the orchestrator's store is an older one */
+#define TUFAYON_SAME_NODE 19   /* of a recovery: two of the nodes are one */
+#define TUFAYON_NOT_LATER 20   /* of a recovery: the session isn't later than all that the plugins heard of */
+#define TUFAYON_DISAGREES 21   /* of a recovery: what a node keeps disagrees with what the controller keeps */
+#define TUFAYON_BAD_ROW 22     /* of a recovery: a volume is staged at a node that isn't listed, or is to be unstaged at two */
 
 /* What an orchestrator knows: as in a record. */
 #define TUFAYON_KNOWN_NO 0
@@ -197,6 +201,43 @@ uint32_t tufayon_orchestrator_from_record(const uint8_t *config, size_t config_s
  */
 uint32_t tufayon_orchestrator_open(const uint8_t *config, size_t config_size, const uint8_t *record, size_t record_size, uint64_t session,
                                    tufayon_plugin *orchestrator);
+
+/*
+ * Recovery, where an orchestrator lost its store and the old one never comes back: the session is raised in the plugins, and a new orchestrator is made of
+ * what they keep. Everything is stopped, and the program has all of the plugins' stores; a node whose store it hasn't is lost, as by
+ * tufayon_orchestrator_lose, and joins again with this session or a later one. In this order, so that nothing is changed where something is refused, and
+ * a program that stops at any moment does it all again:
+ *
+ *     the controller, and the nodes in a row, of what their stores have: tufayon_controller_from_record, tufayon_node_from_record
+ *     tufayon_recovery_session, of them;    tufayon_orchestrator_recovered, with that session
+ *     for each node, then the controller: tufayon_raise to that session, and commit; after TUFAYON_RENEWED the changes of making it come first, in the same commit
+ *     commit(false) of the orchestrator, into its new store; then it is used as one that was made in any other way
+ *
+ * tufayon_raise raises the session in a plugin, where it is later than all that it heard of, as if a call had begun it: every call of an earlier session is
+ * stale from then on. Its changes are the head, and what takes out the rows that are forgotten; none where the session isn't later.
+ * Fails with TUFAYON_NO_MEMORY, TUFAYON_EMPTY or TUFAYON_OTHER_KIND.
+ *
+ * tufayon_recovery_session: with TUFAYON_DONE `session` is that of a recovery: 2^20 above all that the plugins heard of and above `known`, the greatest
+ * that is known of the lost orchestrator, 0 where none is: at each start it may have begun one of which no plugin heard. TUFAYON_REFUSED: none is left (14,
+ * NumbersSpent). Fails also with TUFAYON_NO_MEMORY, TUFAYON_EMPTY or TUFAYON_OTHER_KIND.
+ *
+ * tufayon_orchestrator_recovered makes the orchestrator, in an empty handle, with the nodes of a configuration, in the session after this one. Each live
+ * volume has a row: it is made, attached where the controller has it, and staged and published as its node has it; what is staged and published nowhere is
+ * to be stopped there, at the target "/", which tufayon_goal tells. A node that is lost has its attachments, and nothing staged. Its changes are the whole
+ * record, for a store that has nothing. It fails with the first of these that holds, and the plugins stay as they are: TUFAYON_FULL; TUFAYON_BAD_NAME (no
+ * configuration); TUFAYON_EMPTY or TUFAYON_OTHER_KIND (the controller, or one of the nodes, is none); TUFAYON_SAME_NODE; TUFAYON_NOT_LATER;
+ * TUFAYON_DISAGREES (a volume is staged there, and isn't attached there in that capability, or is published with another flag than it is attached with);
+ * TUFAYON_BAD_ROW (a volume is staged at a node that the configuration leaves out, or staged and published nowhere at two); TUFAYON_REFUSED (the session is
+ * the last one: 14, NumbersSpent). With TUFAYON_SAME_NODE and TUFAYON_DISAGREES `place` is that of the node in the row, with TUFAYON_BAD_ROW that of the
+ * volume among the controller's live ones, by rising id; each counted from 1. Fails also with TUFAYON_NO_MEMORY.
+ *
+ * The nodes are handles in a row, `nodes_count` of them, each moved there: what is a handle's own struct isn't used while its copy in the row is, and is
+ * copied back where it is to be used again. They stay as they are, as does the controller's handle.
+ */
+uint32_t tufayon_raise(tufayon_plugin *plugin, uint64_t session);
+uint32_t tufayon_recovery_session(uint64_t known, tufayon_plugin *controller, tufayon_plugin *nodes, size_t nodes_count, uint64_t *session);
+uint32_t tufayon_orchestrator_recovered(const uint8_t *config, size_t config_size, uint64_t session, tufayon_plugin *controller, tufayon_plugin *nodes,
+                                        size_t nodes_count, tufayon_plugin *orchestrator, uint64_t *place);
 
 /*
  * Commands, and a timeout: to create a volume of a name; to use it, which publishes it at a target of a node, in a capability; to stop using it

@@ -25,6 +25,10 @@ pub const IGNORED: u32 = 15;
 pub const EARLIER_SESSION: u32 = 16;
 pub const NODE_IN_USE: u32 = 17;
 pub const OLDER_STORE: u32 = 18;
+pub const SAME_NODE: u32 = 19;
+pub const NOT_LATER: u32 = 20;
+pub const DISAGREES: u32 = 21;
+pub const BAD_ROW: u32 = 22;
 
 // A plugin, an orchestrator, or nothing.
 #[repr(C)]
@@ -48,6 +52,10 @@ unsafe extern "C" {
     pub fn tufayon_orchestrator_new(config: *const u8, config_size: usize, orchestrator: *mut Plugin) -> u32;
     pub fn tufayon_orchestrator_from_record(config: *const u8, config_size: usize, record: *const u8, record_size: usize, orchestrator: *mut Plugin) -> u32;
     pub fn tufayon_orchestrator_open(config: *const u8, config_size: usize, record: *const u8, record_size: usize, session: u64, orchestrator: *mut Plugin) -> u32;
+    pub fn tufayon_raise(plugin: *mut Plugin, session: u64) -> u32;
+    pub fn tufayon_recovery_session(known: u64, controller: *mut Plugin, nodes: *mut Plugin, nodes_count: usize, session: *mut u64) -> u32;
+    pub fn tufayon_orchestrator_recovered(config: *const u8, config_size: usize, session: u64, controller: *mut Plugin, nodes: *mut Plugin,
+        nodes_count: usize, orchestrator: *mut Plugin, place: *mut u64) -> u32;
     pub fn tufayon_create(orchestrator: *mut Plugin, name: *const u8, name_size: usize, required: u64, limit: u64, capabilities: *const u8,
         capabilities_size: usize, frame: *mut u8, frame_room: usize, written: *mut usize, fault: *mut u32) -> u32;
     pub fn tufayon_use(orchestrator: *mut Plugin, name: *const u8, name_size: usize, node: *const u8, node_size: usize, target: *const u8,

@@ -312,6 +312,14 @@ parts copy_of(const parts *from) {
     return it;
 }
 
+void was_made(tested *of, const parts *store, const parts *told) {
+    of->has = true;
+    of->store = copy_of(store);
+    of->told = copy_of(told);
+    open++;
+    compare(of);
+}
+
 void makes(tested *of, asked how, uint32_t ending, const parts *store, const parts *told) {
     call it = {.what = MAKE, .of = of, .how = how};
     long before = held;
@@ -319,11 +327,7 @@ void makes(tested *of, asked how, uint32_t ending, const parts *store, const par
     leave(&it);
     must(got == ending, "a plugin is made, or isn't, against what is expected");
     if (ending == TUFAYON_DONE || ending == TUFAYON_RENEWED) {
-        of->has = true;
-        of->store = copy_of(store);
-        of->told = copy_of(told);
-        open++;
-        compare(of);
+        was_made(of, store, told);
     } else {
         must(held == before, "a plugin that isn't made leaves a block");
         if (!of->has || stride > 0) is_as_it_was(of);

@@ -1,4 +1,4 @@
-/* What calls.c and asking.c share. */
+/* What calls.c, asking.c and recovering.c share. */
 #ifndef CALLS_H
 #define CALLS_H
 
@@ -31,6 +31,8 @@ void tells(tested *of, bool in_full);
 void is_as_it_was(tested *of);
 /* It has the store and tells the changes that are expected. */
 void compare(tested *of);
+/* It was made, with this store and these changes. */
+void was_made(tested *of, const parts *store, const parts *told);
 parts copy_of(const parts *from);
 
 #endif

@@ -37,11 +37,15 @@ static const struct {
     {"tufayon_node_joined", OF_NEW},
     {"tufayon_node_joined_from_record", OF_RECORD | IS(EARLIER_SESSION)},
     {"tufayon_orchestrator_open", OF_NEW | IS(BAD_RECORD) | IS(REFUSED) | IS(NODE_IN_USE)},
+    {"tufayon_raise", OF_REQUEST},
+    {"tufayon_recovery_session", OF_REQUEST | IS(REFUSED)},
+    {"tufayon_orchestrator_recovered",
+     OF_NEW | IS(EMPTY) | IS(OTHER_KIND) | IS(REFUSED) | IS(SAME_NODE) | IS(NOT_LATER) | IS(DISAGREES) | IS(BAD_ROW)},
 };
 static unsigned seen_of[sizeof CALLS / sizeof *CALLS]; /* the endings that each of them had so far */
 
 void see(size_t place, uint32_t ending) {
-    must(ending <= TUFAYON_OLDER_STORE, "a call has an ending that the header doesn't have");
+    must(ending <= TUFAYON_BAD_ROW, "a call has an ending that the header doesn't have");
     seen_of[place] |= 1u << ending;
 }
 

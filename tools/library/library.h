@@ -149,7 +149,7 @@ void frees(tested *of);
 
 /* ---- endings (endings.c) */
 
-enum { ROW_ANSWER = 4, ROW_ORCHESTRATORS = 7, ROW_REQUESTS = 9, ROW_VOLUME = 21, ROW_JOINED = 22, ROW_OPENED = 24 }; /* where calls stand in the table */
+enum { ROW_ANSWER = 4, ROW_ORCHESTRATORS = 7, ROW_REQUESTS = 9, ROW_VOLUME = 21, ROW_JOINED = 22, ROW_OPENED = 24, ROW_RAISE, ROW_SESSION, ROW_RECOVERED }; /* where calls stand */
 void see(size_t row, uint32_t ending); /* the call of this row ended so */
 
 /* ---- cases */
@@ -168,6 +168,7 @@ void test_orchestrator(void);
 void test_orchestrator_records(void);
 void test_losing(void);
 void test_many(void);
+void test_recovering(void);
 void test_endings(void); /* after the others: each call has had each of its endings */
 
 #endif

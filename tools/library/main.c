@@ -17,7 +17,8 @@ int main(void) {
                  {"joined", test_joined},     {"frames", test_frames},   {"groups", test_groups},         {"records", test_records},
                  {"damaged", test_damaged},   {"full stores", test_full}, {"orchestrator", test_orchestrator},
                  {"orchestrator's records", test_orchestrator_records},
-                 {"lost nodes", test_losing}, {"many volumes", test_many}, {"endings", test_endings}};
+                 {"lost nodes", test_losing}, {"many volumes", test_many}, {"recovery", test_recovering},
+                 {"endings", test_endings}};
     for (size_t at = 0; at < sizeof tests / sizeof *tests; at++) {
         unsigned long cases_before = cases, refusals_before = refusals;
         snprintf(doing, sizeof doing, "%s", tests[at].name);

@@ -7,3 +7,5 @@ pub mod Asked
 pub mod HeardHandles
 pub mod MadeOrchestrators
 pub mod LostNodes
+pub mod HandleRecords
+pub mod MadeOfRecords

@@ -39,7 +39,7 @@ config_in default (Ok config) = config
 config_in default (Err fault) = default
 
 -- a text says one list of nodes
-same-nodes : (text : List ℕ) (one other : List (List ℕ)) → AreNodesOf text one → AreNodesOf text other → one ≡ other
+pub same-nodes : (text : List ℕ) (one other : List (List ℕ)) → AreNodesOf text one → AreNodesOf text other → one ≡ other
 same-nodes text one other said also =
     let config : said.0 ≡ also.0 = ap (config_in said.0) (sym said.1 ∙ also.1) in
     said.2 ∙ ap (λ (c : Config). node_ids c.nodes) config ∙ sym also.2

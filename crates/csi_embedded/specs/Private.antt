@@ -5,3 +5,4 @@ pub mod Holding
 pub mod Asking
 pub mod Knowing
 pub mod Losing
+pub mod Recovering

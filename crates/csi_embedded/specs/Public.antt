@@ -7,3 +7,5 @@ pub mod Asking
 pub mod Knowing
 pub mod Losing
 pub mod Version
+pub mod Raising
+pub mod Recovering

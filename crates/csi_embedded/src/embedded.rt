@@ -33,6 +33,7 @@ impl Embedded {
     ghost use Rattle.csi_embedded.specs.Private.Calls.{changes_in};
     ghost use Rattle.csi_embedded.specs.Public.Asking.{command_input, Carries};
     ghost use Rattle.csi_embedded.specs.Public.Losing.{LosesNode};
+    ghost use Rattle.csi_embedded.specs.Public.Raising.{IsRaisedIn};
     ghost use Rattle.csi_embedded.specs.Public.Calls.{frame_front, told_changes, AnswersFrame, IsNoAnswer, Remains};
     ghost use Rattle.csi_embedded.specs.Public.Plugins.{is_orchestrator as is_one, orchestrator_of, IsStaleTo, IsTimelyTo};
 
@@ -104,6 +105,18 @@ impl Embedded {
             }
             Err(ending) => Err(ending),
         }
+    }
+
+    /// Raises the session in a plugin, where it is later than the greatest that came, as if a call had begun it. A refusal leaves everything as
+    /// it was.
+    pub fn raise(&mut self, session: u64) -> Result<(), NoMemory>
+        requires { is_one self.old.plugin ≡ false }
+        ensures raised { OnOk result (IsRaisedIn session self.old self.new) }
+        ensures remains { OnErr result (Remains self.old self.new) }
+    {
+        let changed = self.plugin.raise(session)?;
+        self.changed = Some(changed);
+        Ok(())
     }
 
     /// What the store has to be given before the reply is sent: the parts to be put in and taken out, in this order. A refusal leaves

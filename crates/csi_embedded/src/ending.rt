@@ -45,6 +45,14 @@ pub enum Ending {
     NodeInUse = 17,
     /// The frame says of an open call that it was stale: the store is an older one, and nothing changed.
     OlderStore = 18,
+    /// Two nodes' records are of one node.
+    SameNode = 19,
+    /// The session isn't later than all that the plugins heard of.
+    NotLater = 20,
+    /// A node's record disagrees with the controller's.
+    Disagrees = 21,
+    /// A live volume can't have a row.
+    BadRow = 22,
 }
 
 impl Ending {

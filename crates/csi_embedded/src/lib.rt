@@ -24,6 +24,8 @@ mod opened;
 mod orchestrator_exports;
 mod orchestrator_making;
 mod plugin;
+mod recovering;
+mod recovery_exports;
 mod sending;
 mod session_exports;
 mod splitting;

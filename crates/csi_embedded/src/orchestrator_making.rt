@@ -30,8 +30,8 @@ fn ids_of(alloc: Global, nodes: &[NodeSlots]) -> Result<Vec<NodeId>, NoMemory>
     Ok(ids)
 }
 
-// The nodes of the configuration that these bytes say.
-fn nodes_of(alloc: Global, config: &[u8]) -> Result<Vec<NodeId>, Ending>
+/// The nodes of the configuration that these bytes say.
+pub(crate) fn nodes_of(alloc: Global, config: &[u8]) -> Result<Vec<NodeId>, Ending>
     ensures made { IfOk result (λ ids. AreNodesOf config.now ids.items) }
     ensures refused { IfErr result (IsNoNodes config.now) }
 {
@@ -45,8 +45,8 @@ fn nodes_of(alloc: Global, config: &[u8]) -> Result<Vec<NodeId>, Ending>
     }
 }
 
-// The orchestrator, of which the store has to be given what its opening changed.
-fn embedded(alloc: Global, service: OrchestratorService) -> Result<Embedded, NoMemory>
+/// The orchestrator, of which the store has to be given what its opening changed.
+pub(crate) fn embedded(alloc: Global, service: OrchestratorService) -> Result<Embedded, NoMemory>
     ensures plugin { IfOk result (λ made. made.plugin ≡ Plugin.Orchestrator service) }
     ensures told { IfOk result (λ made. told_changes made ≡ orchestrator_service_changes service) }
 {

@@ -1,12 +1,18 @@
 //! What a handle has: a controller, a node or an orchestrator.
-ghost use Rattle.std.specs.Prelude.{◌≡◌, ◌≤◌, ◌+◌, false, map, length, IfOk, OnOk, OnErr};
+ghost use Rattle.std.specs.Prelude.{◌≡◌, ◌≤◌, ◌+◌, false, map, length, IfOk, IfErr, OnOk, OnErr};
 ghost use Rattle.csi_frames.specs.Public.Lent.{lent_frame};
 ghost use Rattle.csi_stores.specs.Public.Part.{part_change};
 ghost use Rattle.csi_stores.specs.Public.Content.{all_changed};
 ghost use Rattle.csi_service.specs.Public.Answering.{AppendsReply};
 ghost use Rattle.csi_embedded.specs.Public.Plugins.{plugin_parts, plugin_changes, is_orchestrator as is_one, PluginAnswers, IsAsItWas, IsPluginRecord};
+ghost use Rattle.csi_embedded.specs.Public.Raising.{RaisesPlugin};
+ghost use Rattle.csi_embedded.specs.Public.Recovering.{is_controller, is_node};
+ghost use Rattle.csi_embedded.specs.Private.Recovering.{IsControllerRecord, IsNodeRecord, IsUnkept};
 
+use crate::ending::Ending;
+use csi_controller::ControllerRecord;
 use csi_frames::FrameRef;
+use csi_node::NodeRecord;
 use csi_records::write_orchestrator;
 use csi_service::{ControllerService, Core, NodeService, OrchestratorService, Part, write_record};
 use csi_types::NoMemory;
@@ -48,6 +54,21 @@ impl Plugin {
         }
     }
 
+    /// Raises the session in a plugin, where it is later than the greatest that came (`PluginService::raise`): what its store has to be given
+    /// then. A refusal leaves the plugin as it was. There is none in an orchestrator.
+    pub fn raise(&mut self, session: u64) -> Result<Vec<Part>, NoMemory>
+        requires { is_one self.old ≡ false }
+        ensures raised { IfOk result (λ parts. RaisesPlugin session self.old (map part_change parts.items) self.new) }
+        ensures parts { IfOk result (λ parts. plugin_parts self.new ≡ all_changed (map part_change parts.items) (plugin_parts self.old)) }
+        ensures err { OnErr result (self.new ≡ self.old) }
+    {
+        match self {
+            Plugin::Controller(service) => service.raise(session),
+            Plugin::Node(service) => service.raise(session),
+            Plugin::Orchestrator(_) => unreachable!(),
+        }
+    }
+
     /// What the last frame that was answered changed: the parts to be put in or taken out.
     pub fn changed(&self) -> Result<Vec<Part>, NoMemory>
         ensures { IfOk result (λ parts. map part_change parts.items ≡ plugin_changes self.now) }
@@ -73,6 +94,36 @@ impl Plugin {
                 write_record(alloc, &kept)
             }
             Plugin::Orchestrator(service) => write_orchestrator(alloc, service.orchestrator()),
+        }
+    }
+
+    /// The record of a controller.
+    pub fn controller_record(&self) -> Result<ControllerRecord, Ending>
+        ensures kept { IfOk result (IsControllerRecord self.now) }
+        ensures none { IfErr result (IsUnkept is_controller self.now) }
+    {
+        match self {
+            Plugin::Controller(service) => match service.record() {
+                Ok(kept) => Ok(kept),
+                Err(_) => Err(Ending::NoMemory),
+            },
+            Plugin::Node(_) => Err(Ending::OtherKind),
+            Plugin::Orchestrator(_) => Err(Ending::OtherKind),
+        }
+    }
+
+    /// The record of a node.
+    pub fn node_record(&self) -> Result<NodeRecord, Ending>
+        ensures kept { IfOk result (IsNodeRecord self.now) }
+        ensures none { IfErr result (IsUnkept is_node self.now) }
+    {
+        match self {
+            Plugin::Node(service) => match service.record() {
+                Ok(kept) => Ok(kept),
+                Err(_) => Err(Ending::NoMemory),
+            },
+            Plugin::Controller(_) => Err(Ending::OtherKind),
+            Plugin::Orchestrator(_) => Err(Ending::OtherKind),
         }
     }
 }

@@ -1,7 +1,7 @@
 -- The number of each ending, as a C program sees it. This profile's own.
 use Rattle.std.specs.Prelude.{ℕ}
 use Rattle.csi_embedded.specs.declared.ending.Ending.{Ending}
-use Rattle.csi_embedded.specs.declared.ending.Ending.TheVariants.{Done, NoMemory, Empty, Full, BadName, BadRecord, Short, BadFrame, NoRoom, Renewed, TakenOut, NoMore, Refused, OtherKind, Met, Ignored, EarlierSession, NodeInUse, OlderStore}
+use Rattle.csi_embedded.specs.declared.ending.Ending.TheVariants.{Done, NoMemory, Empty, Full, BadName, BadRecord, Short, BadFrame, NoRoom, Renewed, TakenOut, NoMore, Refused, OtherKind, Met, Ignored, EarlierSession, NodeInUse, OlderStore, SameNode, NotLater, Disagrees, BadRow}
 
 -- an ending's number
 abbrev pub ending_number : Ending → ℕ
@@ -24,3 +24,7 @@ ending_number Ignored = 15
 ending_number EarlierSession = 16
 ending_number NodeInUse = 17
 ending_number OlderStore = 18
+ending_number SameNode = 19
+ending_number NotLater = 20
+ending_number Disagrees = 21
+ending_number BadRow = 22
