@@ -26,13 +26,21 @@ pub enum Ending {
     ConfigRefused,
     /// The store has no record of this plugin: the position, from 0, of the first part that is refused.
     RecordFault(u64),
+    /// One of several stores has no such record: the position, from 0, of its first part that is refused, and the store's place among the
+    /// words, from 1.
+    StoreFault(u64, u64),
+    /// The store at this place among the words, from 1, disagrees with those before it.
+    StoresDisagree(u64),
+    /// The store that is to be made has parts.
+    StoreNotNew,
     /// The node's store is of an earlier session than that of its joining: it is a lost node's.
     EarlierSession,
     /// The line of this number, from 1, is too long.
     LineFault(u64),
     /// No session is left for an orchestrator that begins another.
     NumbersSpent,
-    /// A volume may be attached at a node of an orchestrator's record that the configuration leaves out.
+    /// The configuration leaves out a node that is in use: a volume may be attached there, by an orchestrator's record, or is staged there, by
+    /// the node's.
     NodeInUse,
     /// A reply tells that an orchestrator's store is an older one.
     OlderStore,
@@ -57,7 +65,8 @@ impl Ending {
         match self {
             Ending::Done => 0,
             Ending::FrameFault(..) | Ending::ScheduleFault(_) | Ending::NotUtf8 => 1,
-            Ending::ConfigRefused | Ending::RecordFault(_) | Ending::EarlierSession => 1,
+            Ending::ConfigRefused | Ending::RecordFault(_) | Ending::StoreFault(..) => 1,
+            Ending::StoresDisagree(_) | Ending::StoreNotNew | Ending::EarlierSession => 1,
             Ending::LineFault(_) | Ending::NumbersSpent => 1,
             Ending::NodeInUse | Ending::OlderStore => 1,
             Ending::Usage => 2,
@@ -139,6 +148,14 @@ impl fmt::Display for Ending {
             Ending::NotUtf8 => write!(f, "csi-replay: not UTF-8"),
             Ending::ConfigRefused => write!(f, "csi-replay: config refused"),
             Ending::RecordFault(place) => write!(f, "csi-replay: record fault at {place}"),
+            Ending::StoreFault(place, store) => {
+                write!(f, "csi-replay: record fault at {place}, store {store}")
+            }
+            Ending::StoresDisagree(store) => write!(
+                f,
+                "csi-replay: stores disagree, store {store}"
+            ),
+            Ending::StoreNotNew => write!(f, "csi-replay: store not new"),
             Ending::EarlierSession => write!(f, "csi-replay: store of an earlier session"),
             Ending::LineFault(number) => write!(f, "csi-replay: line fault at {number}"),
             Ending::NumbersSpent => write!(f, "csi-replay: numbers spent"),

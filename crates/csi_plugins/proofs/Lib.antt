@@ -2,3 +2,10 @@ pub mod JoinedRuns
 pub mod NoRecords
 pub mod PluginRuns
 pub mod Tellings
+pub mod Walked
+pub mod GivenStores
+pub mod GivenNodes
+pub mod Refusing
+pub mod MadePlans
+pub mod CarryingOut
+pub mod RecoveredStores

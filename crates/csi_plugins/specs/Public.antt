@@ -5,3 +5,4 @@ pub mod Serving
 pub mod Running
 pub mod Joined
 pub mod Recording
+pub mod Recovering

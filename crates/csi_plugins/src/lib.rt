@@ -2,9 +2,13 @@
 #![tactic(auto)]
 
 mod ending;
+mod given;
 mod joined;
+mod judging;
 mod kind;
+mod planning;
 mod recording;
+mod recovering;
 mod running;
 mod service;
 
@@ -12,4 +16,5 @@ pub use ending::ending_unopened;
 pub use joined::{memory_runs_law, runs_law, three_runs_law};
 pub use kind::{Plugin, asked_session};
 pub use recording::record;
+pub use recovering::{Recovery, recover};
 pub use running::plugin;

@@ -5,3 +5,4 @@ pub mod SeenInPlace
 pub mod OneOrder
 pub mod OneReport
 pub mod OneLine
+pub mod LostNodes

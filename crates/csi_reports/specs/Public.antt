@@ -8,4 +8,5 @@ pub mod Report
 pub mod Goals
 pub mod ByName
 pub mod OrchestratorRecords
+pub mod Recoveries
 pub mod Responses

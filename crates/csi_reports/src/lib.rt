@@ -15,6 +15,7 @@ mod orchestrator_records;
 mod order;
 mod outcomes;
 mod records;
+mod recoveries;
 mod responses;
 mod things;
 mod writer;
@@ -27,6 +28,7 @@ pub use live_volumes::write_volumes;
 pub use members::put_array;
 pub use orchestrator_records::orchestrator_line;
 pub use records::{controller_line, node_line};
+pub use recoveries::recovery_line;
 pub use responses::{
     RequestOutcome, Sending, answer_line, fault_line, ignored_line, loss_line, opened_line,
 };

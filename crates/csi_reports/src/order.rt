@@ -15,6 +15,17 @@ pub trait Placed {
         ensures { result ≡ place_order (place self.now) (place other.now) };
 }
 
+impl Placed for NodeId {
+    ghost use Rattle.csi_reports.specs.Public.ByName.{name_place};
+
+    ghost place = { name_place };
+
+    #[tactic(auto, using(crate::proofs::Places::name_places))]
+    fn compare(&self, other: &NodeId) -> Ordering {
+        self.as_str().cmp(other.as_str())
+    }
+}
+
 impl Placed for Holding {
     ghost place = { attached_place };
 

@@ -13,6 +13,7 @@ pub mod FitRows
 pub mod RecordParts
 pub mod RenewedParts
 pub mod MadeCores
+pub mod ReadRecords
 pub mod NodeOpening
 pub mod JoinedSessions
 pub mod AnsweredFrames

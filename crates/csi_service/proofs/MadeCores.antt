@@ -63,7 +63,7 @@ module _ {X : Type 0} (records : Records X) (head : StoredPart) where
 -- ---- of each plugin
 
 -- parts in the present version are those of the record that they are read as
-controller-own : (next_id : ℕ) (session : Option ℕ) (rows : List ControllerRow) (kept : RecordParts) (found : List StoredPart) → IsSessionIf true session → kept ≡ controller_record_of next_id session rows
+pub controller-own : (next_id : ℕ) (session : Option ℕ) (rows : List ControllerRow) (kept : RecordParts) (found : List StoredPart) → IsSessionIf true session → kept ≡ controller_record_of next_id session rows
     → found ≡ controller_parts present next_id session (map volume_row rows) → found ≡ controller_parts present kept.next_id (Some kept.session) (map volume_row kept.rows)
 controller-own next_id None rows kept found fits is are = absurd fits
 controller-own next_id (Some session) rows kept found fits is are = are ∙ sym (ap (λ (k : RecordParts). controller_parts present k.next_id (Some k.session) (map volume_row k.rows)) is)
@@ -80,7 +80,7 @@ controller-made found now changes version kept read same renewal =
     read.0 read.1 same renewal
 
 -- a node's parts in the present version are those of the record that they are read as
-node-own : (id : List ℕ) (session : Option ℕ) (rows : List NodeRow) (kept : NodeParts) (found : List StoredPart) → IsSessionIf true session → kept ≡ node_record_of id session rows
+pub node-own : (id : List ℕ) (session : Option ℕ) (rows : List NodeRow) (kept : NodeParts) (found : List StoredPart) → IsSessionIf true session → kept ≡ node_record_of id session rows
     → found ≡ node_parts present id session (map node_row_shown rows) → found ≡ node_parts present kept.id (Some kept.session) (map node_row_shown kept.rows)
 node-own id None rows kept found fits is are = absurd fits
 node-own id (Some session) rows kept found fits is are = are ∙ sym (ap (λ (k : NodeParts). node_parts present k.id (Some k.session) (map node_row_shown k.rows)) is)

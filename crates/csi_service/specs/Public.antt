@@ -10,3 +10,4 @@ pub mod WholeRecords
 pub mod OrchestratorServices
 pub mod OrchestratorOpening
 pub mod Raising
+pub mod Renewed

@@ -37,6 +37,17 @@ const ENDINGS: &[(Ending, &str, u8)] = &[
         "csi-replay: record fault at 4096",
         1,
     ),
+    (
+        Ending::StoreFault(0, 1),
+        "csi-replay: record fault at 0, store 1",
+        1,
+    ),
+    (
+        Ending::StoresDisagree(65),
+        "csi-replay: stores disagree, store 65",
+        1,
+    ),
+    (Ending::StoreNotNew, "csi-replay: store not new", 1),
     (Ending::LineFault(1), "csi-replay: line fault at 1", 1),
     (
         Ending::LineFault(18_446_744_073_709_551_615),
