@@ -57,7 +57,7 @@ const (
 	takeSide   = "DELETE FROM beside WHERE name = ?1 AND made < (SELECT max(made) FROM beside WHERE name = ?1)"
 	putSide    = "INSERT INTO beside (name, made, value) VALUES (?, ?, ?)"
 	counts     = 1 << 31 // user_version has as many values
-	markName   = ""      // of a side that each commit puts: whichever is taken out, the last commit is the greatest that one has
+	markName   = ""      // of a side that a commit puts which takes some out alone: the last commit is the greatest that one has
 )
 
 // beside are the sides of a record in SQLite, whose file may have no other table: a file of their own, with the table beside. A commit that puts sides has
@@ -146,7 +146,7 @@ func (beside *beside) commit(ctx context.Context, sides []Side) error {
 		if err := tx.run(takeLater, beside.made); err != nil {
 			return err
 		}
-		for _, side := range append(sides[:len(sides):len(sides)], Side{Name: markName, Value: []byte{}}) {
+		for _, side := range marked(sides) {
 			var err error
 			if side.Out {
 				err = tx.run(takeOut, side.Name)
@@ -163,6 +163,16 @@ func (beside *beside) commit(ctx context.Context, sides []Side) error {
 		return fmt.Errorf("%w: %v", ErrDevice, err)
 	}
 	return nil
+}
+
+// marked adds a side that is put where none is.
+func marked(sides []Side) []Side {
+	for _, side := range sides {
+		if !side.Out {
+			return sides
+		}
+	}
+	return append(sides[:len(sides):len(sides)], Side{Name: markName, Value: []byte{}})
 }
 
 // isFirst says whether one of the sides is to be kept before the record changes.

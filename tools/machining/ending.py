@@ -30,7 +30,8 @@ def at_rest(system):
                 return volumes
         time.sleep(0.2)
     if wanted is None:
-        raise Found(f"no orchestrator answers within {within:.0f} seconds")
+        well = " and ".join(sorted(system.healthy())) or "no member"
+        raise Found(f"no orchestrator answers within {within:.0f} seconds, and of etcd {well} is well")
     told = "; ".join(f"{name}: {it['goal']}, held up by {it['held_up_by']}, {it['trouble']}" for name, it in wanted.items())
     raise Found(f"not at rest within {within:.0f} seconds: {told}")
 
