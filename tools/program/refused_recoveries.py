@@ -86,13 +86,13 @@ def no_record(box, place, parts, at):
 
 
 def bad_parts(box):
-    """Each of the parts that are no record, as the controller's and as each node's; one of another kind is at fault from its head on."""
+    """Each of the parts that are no record, as the controller's and as a node's; one of another kind is at fault from its head on."""
     can_recover(box)
-    for what, at, parts in BAD_PARTS:
+    for count, (what, at, parts) in enumerate(BAD_PARTS):
         kind = parts[0][1][1:2] if parts and parts[0][0] == bytes(8) else None
         if len(parts) > 100 or parts[:1] == [("x", b"x")]:
             continue
-        for place in (1, 2, 3):
+        for place in (1, 2 + count % 2):
             folder = f"{what}, store {place}".replace("/", " ")
             os.mkdir(box.at(folder))
             fault = at if kind == (b"\0" if place == 1 else b"\1") else 0
@@ -123,8 +123,8 @@ def of_others(box):
 def no_stores(box):
     """What is no store is opened by nobody, as a plugin's or as NEW.db; it stays, and so do all others, and nothing lies beside them."""
     can_recover(box)
-    for what, making in NO_STORES:
-        for place in range(4):
+    for at, (what, making) in enumerate(NO_STORES):
+        for place in {at % 4, (at + 1) % 4}:
             folder = f"{what} {place}"
             os.mkdir(box.at(folder))
             it = Set.made(type(box)(box.program, box.at(folder)), CONTROLLER_PARTS, [N1, N2], LISTED)
