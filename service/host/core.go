@@ -267,6 +267,22 @@ func (core *core) lose(node string) (plugin.Outcome, error) {
 	return outcome, err
 }
 
+// mostChanges is after how many changes and sides a commit is made, whoever waits: a transaction of etcd takes 120, and more goes in pieces, one by one.
+const mostChanges = 108
+
+// isFull says whether there are so many since the last commit.
+func (core *core) isFull() bool {
+	sides := len(core.peers.changed)
+	if len(core.changes)+sides < mostChanges {
+		return false
+	}
+	keys := make(map[uint64]bool, len(core.changes))
+	for _, it := range core.changes {
+		keys[it.Key] = true
+	}
+	return len(keys)+sides >= mostChanges
+}
+
 // commit commits what was asked since the last commit.
 func (core *core) commit(ctx context.Context) error {
 	changes, sides := core.changes, core.peers.sides()

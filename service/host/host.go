@@ -216,6 +216,10 @@ func (host *Host) carryOut(batch []event) error {
 		if err != nil {
 			return err
 		}
+		if host.core.isFull() {
+			host.queue = append(append([]event(nil), batch[at+1:]...), host.queue...)
+			break
+		}
 	}
 	if err := host.commit(); err != nil {
 		return err
