@@ -3,18 +3,15 @@ use Rattle.std.proofs.Common.{◌≡◌, ◌∙◌, ◌<◌, ◌≤◌, ◌+◌,
 use Rattle.std.specs.Prelude.{Option, Some, None, is_none}
 use Rattle.std.specs.List.{list_any}
 use Rattle.std.proofs.lemmas.Bool.{true≢false, ltb-false}
-use Rattle.csi_lists.specs.Model.Members.{IsAmong}
 use Rattle.csi_lists.proofs.Options.{some_is_not_none}
 use Rattle.csi_lists.proofs.Tests.{then-any, any-none}
 use Rattle.csi_types.specs.Model.Same.{same_text}
 use Rattle.csi_types.proofs.Equality.{same_text-tells}
-use Rattle.csi_controller.specs.Model.Core.{Shows}
 use Rattle.csi_controller.specs.Model.State.{ControllerState, Volume}
 use Rattle.csi_controller.specs.Public.Views.{RecordParts}
 use Rattle.csi_node.specs.Model.Record.{NodeParts}
 use Rattle.csi_orchestrator.specs.declared.fault.OrchFault.{OrchFault}
 use Rattle.csi_orchestrator.specs.declared.fault.OrchFault.TheVariants as refusals
-use Rattle.csi_orchestrator.specs.Model.Commands.{next_session}
 use Rattle.csi_orchestrator.specs.Model.Shown.{RowShown}
 use Rattle.csi_orchestrator.specs.Public.Beginning.{remembered, is_used_in, leaves_out_used, restart_refusal}
 use Rattle.csi_orchestrator.specs.Public.Laws.{opened_parts}
@@ -32,7 +29,7 @@ use Rattle.csi_embedded.specs.declared.plugin.Plugin.TheVariants.{Controller, No
 use Rattle.csi_embedded.specs.Public.OrchestratorMaking.{AreNodesOf, IsNoNodes}
 use Rattle.csi_embedded.specs.Public.Raising.{HasRaised}
 use Rattle.csi_embedded.specs.Public.Recovering.{is_controller, ShowsController, ShowsNode, HasController, HasNode, HaveNodes, OfThese, TellsSession, IsRecovered, IsNotRecovered}
-use Rattle.csi_embedded.specs.Private.Recovering.{IsControllerRecord, IsNodeRecord, IsUnkept, HasRecord, HasNoRecord, HaveRecords, HaveNoRecords, OfRecords, IsMadeOf, IsUnmadeOf, EndsUnrecovered, IsOpenedNew, IsNotOpenedNew}
+use Rattle.csi_embedded.specs.Private.Recovering.{IsControllerRecord, IsNodeRecord, HasRecord, HasNoRecord, HaveRecords, HaveNoRecords, OfRecords, IsMadeOf, IsUnmadeOf, EndsUnrecovered, IsOpenedNew, IsNotOpenedNew}
 
 -- ---- what is so of the records is so of what the handles have
 
