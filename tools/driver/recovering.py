@@ -39,6 +39,7 @@ def recovered(over):
         for driver in drivers:
             wanted("a driver's end", driver.stop(), 0)
         os.remove(box.at("orchestrator.db"))
+        listed(box, "n1")
         words = [box.at("orchestrator.db"), box.at("config"), "0", box.at("controller.db"), box.at("n1.db")]
         wanted("the recovery", recover(box, *words), (0, told(ABOVE + 1, 3, ["n2"]), b""))
         wanted("once more", recover(box, *words), (1, b"", b"csi-driver: store not new\n"))
@@ -46,9 +47,9 @@ def recovered(over):
         controller, node = box.controller(), box.node()
         controller.wants((10, "stale"), "ControllerPublishVolume", attach(3), (1, 99))
         node.wants((10, "stale"), "NodeStageVolume", stage(3), (1, 99))
-        host = Host(box, over, nodes=("n1", "n2"))
+        host = Host(box, over)
         host.comes("its session", lambda: bool(host.lines))
-        wanted("what is used", said(host, use("v", "n2", "/u")), "refused 7 HeldElsewhere")
+        wanted("at the lost node", said(host, use("v", "n2", "/u")), "refused 5 NoSuchNode")
         wanted("a lost node's", said(host, use("w", "n1")), "refused 7 HeldElsewhere")
         host.ask("w", stop("w", "n2", "/any"))
         host.ask("w", use("w", "n1"))
