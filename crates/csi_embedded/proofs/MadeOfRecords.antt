@@ -75,7 +75,6 @@ empty-raised session old new number empty none is =
     subst (λ (o : Option Embedded). HasRaised session o new number) empty
     (subst (λ (n : Option Embedded). HasRaised session None n number) (sym none) (record { ending = Empty; is = is; raises = refl }))
 
-
 -- ---- no record
 
 -- a session isn't told without the controller's
