@@ -33,11 +33,22 @@ func Refused(number uint32) string {
 
 // Opened is the first line, with its newline: the session, and the names of the volumes of which something is wanted, ordered by bytes.
 func Opened(session uint64, wanted []string) []byte {
-	names := make([]string, 0, len(wanted))
-	for _, name := range wanted {
-		names = append(names, quoted(name))
+	return line(`{"session":%d,"wanted":[%s]}`, session, listed(wanted))
+}
+
+// Recovered is the line, with its newline, that tells what was recovered: the lost nodes, the session, how many volumes there are, and the names of those
+// of which something is wanted.
+func Recovered(lost []string, session uint64, volumes int, wanted []string) []byte {
+	return line(`{"lost":[%s],"session":%d,"volumes":%d,"wanted":[%s]}`, listed(lost), session, volumes, listed(wanted))
+}
+
+// listed writes texts, with commas between.
+func listed(texts []string) string {
+	all := make([]string, 0, len(texts))
+	for _, text := range texts {
+		all = append(all, quoted(text))
 	}
-	return line(`{"session":%d,"wanted":[%s]}`, session, strings.Join(names, ","))
+	return strings.Join(all, ",")
 }
 
 // About is an answer about the volume of a name: what is wanted of it now, what became of the request, and the call that is to be sent, if its

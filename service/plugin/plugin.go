@@ -23,6 +23,10 @@ const (
 	EarlierSession Ending = C.TUFAYON_EARLIER_SESSION
 	NodeInUse      Ending = C.TUFAYON_NODE_IN_USE
 	OlderStore     Ending = C.TUFAYON_OLDER_STORE
+	SameNode       Ending = C.TUFAYON_SAME_NODE
+	NotLater       Ending = C.TUFAYON_NOT_LATER
+	Disagrees      Ending = C.TUFAYON_DISAGREES
+	BadRow         Ending = C.TUFAYON_BAD_ROW
 )
 
 func (ending Ending) Error() string {
@@ -39,6 +43,10 @@ func (ending Ending) Error() string {
 		return "node in use"
 	case OlderStore:
 		return "older store"
+	case NotLater:
+		return "numbers spent"
+	case SameNode, Disagrees, BadRow:
+		return "stores disagree"
 	}
 	return fmt.Sprintf("ending %d", uint32(ending))
 }

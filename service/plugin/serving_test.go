@@ -5,6 +5,7 @@ import (
 	"encoding/binary"
 	"errors"
 	"fmt"
+	"runtime"
 	"sort"
 	"sync"
 	"testing"
@@ -316,6 +317,54 @@ func TestBeginAtNode(t *testing.T) {
 	begins(t, empty, numbers.Opening{Session: 1, Token: "a"}, "")
 	begins(t, empty, numbers.Opening{Session: 2, Token: "a", Sent: number(1, 0), Heard: number(1, 0)}, "")
 	wants(t, empty, 2, 1, stage, codes.OK)
+}
+
+// raised raises a session in a plugin's store, as a recovery does.
+func raised(t *testing.T, maker plugin.Maker, kept store.Store, session uint64) {
+	t.Helper()
+	runtime.LockOSThread()
+	defer runtime.UnlockOSThread()
+	parts, _ := kept.Load(context.Background())
+	made, _, err := maker.Make(store.Record(parts))
+	if err != nil {
+		t.Fatal(err)
+	}
+	defer made.Free()
+	if err := made.Raise(session); err != nil {
+		t.Fatal(err)
+	}
+	changes, err := made.Changes()
+	if err == nil {
+		err = kept.Commit(context.Background(), false, changes)
+	}
+	if err != nil {
+		t.Fatal(err)
+	}
+}
+
+// An orchestrator that was recovered begins its session at a plugin that was raised, and not at one whose store is of before, nor at a lost node that lives.
+func TestBeginRecovered(t *testing.T) {
+	of := func(maker plugin.Maker, raises bool) *serving.Core {
+		kept := newMemory()
+		core := opened(t, maker, kept)
+		begins(t, core, numbers.Opening{Session: 1, Token: "a", List: 1}, "")
+		wants(t, core, 1, 1, stage, codes.OK)
+		core.Close()
+		if raises {
+			raised(t, maker, kept, 9)
+		}
+		return opened(t, maker, kept)
+	}
+	given := numbers.Opening{Session: 10, Token: "r", Sent: number(9, 0), Heard: number(9, 0), List: 9}
+	lost := numbers.Opening{Session: 10, Token: "r", Heard: number(9, 0), IsNew: true, List: 9}
+	begins(t, of(node, true), lost, "earlier")
+	begins(t, of(node, false), lost, "earlier")
+	begins(t, of(node, false), given, "earlier")
+	core := of(node, true)
+	wants(t, core, 1, 2, stage, codes.Aborted)
+	begins(t, core, given, "")
+	wants(t, core, 10, 1, stage, codes.OK)
+	begins(t, opened(t, plugin.Maker{Name: []byte("n1"), Session: 9}, newMemory()), lost, "") // it joined with the recovery's session
 }
 
 // Where a service alone begins sessions, nothing is taken before the first one, also over an empty store.

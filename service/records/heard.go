@@ -13,6 +13,16 @@ func NodeOf(head []byte) (id string, isNode bool) {
 	return from.text(), true
 }
 
+// NodeIn gives the id of the node whose record has this head, in any version.
+func NodeIn(head []byte) (id string, isNode bool) {
+	from := &fields{rest: head}
+	if its := from.byte(); its < 1 || its > version || from.byte() != node {
+		return "", false
+	}
+	id = from.text()
+	return id, from.err == nil
+}
+
 // Heard is the greatest number of a call of which a plugin's record has a row: that of none where there is no such row. By number 0 of a session nobody
 // calls.
 func Heard(parts map[uint64][]byte) (frames.Number, error) {

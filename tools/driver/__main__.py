@@ -5,13 +5,13 @@ import time
 
 from program.running import LeftOut, Wrong
 
-from . import before, fields, hooking, hosting, late, leading, lines, lives, losing, memory, mounting, played, private, sanity, staged, starting
+from . import before, fields, hooking, hosting, late, leading, lines, lives, losing, memory, mounting, played, private, recovering, sanity, staged, starting
 from .box import Box
 
 
 def main():
     built, program, drawn, seed, *words = sys.argv[1:]
-    modules = (fields, starting, memory, played, late, lives, sanity, before, mounting, private, hooking, staged, lines, hosting, losing, leading)
+    modules = (fields, starting, memory, played, late, lives, sanity, before, mounting, private, hooking, staged, lines, hosting, losing, recovering, leading)
     cases = [case for module in modules for case in module.cases(int(drawn), int(seed))]
     passed, failed = 0, 0
     print(f"seed {seed}", flush=True)

@@ -3,18 +3,15 @@ use Rattle.std.proofs.Common.{◌≡◌, ◌∙◌, ◌<◌, ◌≤◌, ◌+◌,
 use Rattle.std.specs.Prelude.{Option, Some, None, is_none}
 use Rattle.std.specs.List.{list_any}
 use Rattle.std.proofs.lemmas.Bool.{true≢false, ltb-false}
-use Rattle.csi_lists.specs.Model.Members.{IsAmong}
 use Rattle.csi_lists.proofs.Options.{some_is_not_none}
 use Rattle.csi_lists.proofs.Tests.{then-any, any-none}
 use Rattle.csi_types.specs.Model.Same.{same_text}
 use Rattle.csi_types.proofs.Equality.{same_text-tells}
-use Rattle.csi_controller.specs.Model.Core.{Shows}
 use Rattle.csi_controller.specs.Model.State.{ControllerState, Volume}
 use Rattle.csi_controller.specs.Public.Views.{RecordParts}
 use Rattle.csi_node.specs.Model.Record.{NodeParts}
 use Rattle.csi_orchestrator.specs.declared.fault.OrchFault.{OrchFault}
 use Rattle.csi_orchestrator.specs.declared.fault.OrchFault.TheVariants as refusals
-use Rattle.csi_orchestrator.specs.Model.Commands.{next_session}
 use Rattle.csi_orchestrator.specs.Model.Shown.{RowShown}
 use Rattle.csi_orchestrator.specs.Public.Beginning.{remembered, is_used_in, leaves_out_used, restart_refusal}
 use Rattle.csi_orchestrator.specs.Public.Laws.{opened_parts}
@@ -22,7 +19,7 @@ use Rattle.csi_orchestrator.specs.Public.Record.{RecordParts as OrchestratorKept
 use Rattle.csi_recovery.specs.declared.fault.RecoveryFault.{RecoveryFault}
 use Rattle.csi_recovery.specs.declared.fault.RecoveryFault.TheVariants as faults
 use Rattle.csi_recovery.specs.Public.Judged.{IsKeptOf, IsGiven, AreGiven, record_of, IsRecoveryRefusal}
-use Rattle.csi_recovery.specs.Public.Recovered.{GivenNode, recovered, recovered_row, recovered_rows, MayRecover}
+use Rattle.csi_world.specs.Public.Recovered.{GivenNode, recovered, recovered_row, recovered_rows, MayRecover}
 use Rattle.csi_service.specs.Public.OrchestratorOpening.{opening_refusal}
 use Rattle.csi_embedded.specs.declared.ending.Ending.{Ending}
 use Rattle.csi_embedded.specs.declared.ending.Ending.TheVariants.{NoMemory, Empty, BadName, Refused, OtherKind, SameNode, NotLater, Disagrees, BadRow}
@@ -32,7 +29,7 @@ use Rattle.csi_embedded.specs.declared.plugin.Plugin.TheVariants.{Controller, No
 use Rattle.csi_embedded.specs.Public.OrchestratorMaking.{AreNodesOf, IsNoNodes}
 use Rattle.csi_embedded.specs.Public.Raising.{HasRaised}
 use Rattle.csi_embedded.specs.Public.Recovering.{is_controller, ShowsController, ShowsNode, HasController, HasNode, HaveNodes, OfThese, TellsSession, IsRecovered, IsNotRecovered}
-use Rattle.csi_embedded.specs.Private.Recovering.{IsControllerRecord, IsNodeRecord, IsUnkept, HasRecord, HasNoRecord, HaveRecords, HaveNoRecords, OfRecords, IsMadeOf, IsUnmadeOf, EndsUnrecovered, IsOpenedNew, IsNotOpenedNew}
+use Rattle.csi_embedded.specs.Private.Recovering.{IsControllerRecord, IsNodeRecord, HasRecord, HasNoRecord, HaveRecords, HaveNoRecords, OfRecords, IsMadeOf, IsUnmadeOf, EndsUnrecovered, IsOpenedNew, IsNotOpenedNew}
 
 -- ---- what is so of the records is so of what the handles have
 
@@ -77,7 +74,6 @@ pub empty-raised : (session : ℕ) (old new : Option Embedded) (number : ℕ) �
 empty-raised session old new number empty none is =
     subst (λ (o : Option Embedded). HasRaised session o new number) empty
     (subst (λ (n : Option Embedded). HasRaised session None n number) (sym none) (record { ending = Empty; is = is; raises = refl }))
-
 
 -- ---- no record
 

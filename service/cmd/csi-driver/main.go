@@ -35,7 +35,8 @@ func statusOf(err error) int {
 	case errors.Is(err, errUsage), errors.Is(err, program.ErrUsage):
 		return 2
 	case errors.Is(err, plugin.BadName), errors.Is(err, plugin.BadRecord), errors.Is(err, plugin.EarlierSession),
-		errors.Is(err, numbers.ErrSpent), errors.Is(err, store.ErrNotes), errors.Is(err, store.ErrBeside):
+		errors.Is(err, numbers.ErrSpent), errors.Is(err, store.ErrNotes), errors.Is(err, store.ErrBeside),
+		isRefused(err):
 		return 1
 	}
 	return 3
@@ -45,6 +46,9 @@ func run(ctx context.Context, words []string) error {
 	if len(words) == 1 && words[0] == "--version" {
 		fmt.Printf("csi-driver %s\n", version.Number)
 		return nil
+	}
+	if len(words) > 0 && words[0] == "recover" {
+		return recoverStore(ctx, words[1:], os.Stdout)
 	}
 	options, err := parse(words)
 	if err != nil {

@@ -26,7 +26,8 @@ import (
 )
 
 var errUsage = errors.New("usage: csi-driver controller [OPTION..] DB CONFIG, " +
-	"csi-driver controller --etcd ENDPOINTS --prefix P [OPTION..] CONFIG, or csi-driver node [OPTION..] DB ID [SESSION]")
+	"csi-driver controller --etcd ENDPOINTS --prefix P [OPTION..] CONFIG, csi-driver node [OPTION..] DB ID [SESSION], " +
+	"or csi-driver recover [OPTION..] NEW CONFIG SESSION CONTROLLER [NODE..]")
 
 // options are the words of a command line.
 type options struct {
@@ -165,17 +166,22 @@ func (options *options) words(words []string) (name string, ok bool) {
 
 func (options *options) addController(flags *flag.FlagSet, endpoints *string) {
 	options.addCommands(flags, settings.Deeds[secure.Controller])
-	flags.StringVar(endpoints, "etcd", "", "etcd's endpoints, with commas between")
-	flags.StringVar(&options.etcd.Prefix, "prefix", "", "what the keys of this store begin with in etcd")
-	flags.StringVar(&options.etcd.CA, "etcd-ca", "", "the certificate of who signed etcd's")
-	flags.StringVar(&options.etcd.Certificate, "etcd-cert", "", "this client's certificate")
-	flags.StringVar(&options.etcd.Key, "etcd-key", "", "its key")
+	addEtcd(flags, endpoints, &options.etcd)
 	flags.BoolVar(&options.upstream.Adopt, "adopt", false, "volumes that were there before are taken up when they are attached")
 	flags.Func("lost", "a node that is gone for good", func(node string) error {
 		options.upstream.Lost = append(options.upstream.Lost, node)
 		return nil
 	})
-	flags.IntVar(&options.etcd.LeaseSeconds, "lease-seconds", 10, "how long this process leads after it was heard of last")
+}
+
+// addEtcd adds the options of a store in etcd.
+func addEtcd(flags *flag.FlagSet, endpoints *string, to *etcd.Config) {
+	flags.StringVar(endpoints, "etcd", "", "etcd's endpoints, with commas between")
+	flags.StringVar(&to.Prefix, "prefix", "", "what the keys of this store begin with in etcd")
+	flags.StringVar(&to.CA, "etcd-ca", "", "the certificate of who signed etcd's")
+	flags.StringVar(&to.Certificate, "etcd-cert", "", "this client's certificate")
+	flags.StringVar(&to.Key, "etcd-key", "", "its key")
+	flags.IntVar(&to.LeaseSeconds, "lease-seconds", 10, "how long this process leads after it was heard of last")
 }
 
 func (options *options) addNode(flags *flag.FlagSet) {

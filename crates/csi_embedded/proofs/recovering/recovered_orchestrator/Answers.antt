@@ -16,7 +16,7 @@ returns-in_err-given-clause-refused c =
 pub returns-in-Ok-clause-made : goal.returns-in-Ok-clause-made
 returns-in-Ok-clause-made c = (
   recovered-of c.args.config.now c.args.session c.args.controller.now.held.embedded (had_by c.args.nodes.now) c.in_ok-listed.listed.items c.in_ok-kept.kept c.in_ok-given.given.items c.in-Ok.made
-  c.in_ok-listed.ensures.made c.in_ok-kept.ensures.kept c.in_ok-given.ensures.kept (subst (λ (given : List NodeParts). IsMadeOf c.in_ok-listed.listed.items c.args.session c.in_ok-kept.kept given c.in-Ok.made) c.deref.ensures.value c.in-Ok.ensures.made),
+      c.in_ok-listed.ensures.made c.in_ok-kept.ensures.kept c.in_ok-given.ensures.kept (subst (λ (given : List NodeParts). IsMadeOf c.in_ok-listed.listed.items c.args.session c.in_ok-kept.kept given c.in-Ok.made) c.deref.ensures.value c.in-Ok.ensures.made),
   refl,
 )
 
