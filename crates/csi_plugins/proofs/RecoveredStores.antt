@@ -23,7 +23,7 @@ use Rattle.csi_endings.specs.declared.ending.Ending.{Ending}
 use Rattle.csi_endings.specs.declared.ending.Ending.TheVariants as endings
 use Rattle.csi_plugins.specs.Public.Ending.{ending_of_store}
 use Rattle.csi_plugins.specs.Public.Recording.{Writer}
-use Rattle.csi_plugins.specs.Public.Recovering.{Fate, IsLeft, IsUnchanged, IsRaisedBy, IsRaisedNode, IsRaisedController, NodeStore, Stores, IsRecovered, AreRead, AreNotRead, AreInTurn, EndsSo, IsBegun}
+use Rattle.csi_plugins.specs.Public.Recovering.{Fate, IsLeft, IsUnchanged, IsRaisedBy, IsRaisedNode, IsRaisedController, NodeStore, Stores, IsRecovered, AreRead, AreNotRead, AreInTurn, IsRecoveryEnd, IsBegun}
 use Rattle.csi_plugins.specs.Public.Recovering.Fate.{Stays}
 use Rattle.csi_plugins.specs.Private.Recovering.{HasRead, ReadStore, HaveRead, IsNotRead, IsOneNotRead, LeadsOn, MadeChanges, GivenStore, IsGiven, IsNew, IsNotNew, IsToldSo, AreAllGiven, IsReady, IsCommitEnd}
 use Rattle.csi_plugins.proofs.GivenStores.{unchanged-same}
@@ -181,7 +181,7 @@ module _ {K : Type 0} (seen : K → Store) where
   -- what was read, made and given
   pub begun : (nodes : List (List ℕ)) (known : ℕ) (before mid after : Stores K) (node_changes : List (List StoredChange)) (controller_changes new_changes : List StoredChange) (line : List ℕ) (Fates : List Fate → Type 0)
       → IsReady seen nodes known before mid node_changes controller_changes new_changes line → AreAllGiven seen mid after node_changes controller_changes new_changes Fates → (had has : Writer) (ending : Ending)
-      → ((fates : List Fate) (ids : List (List ℕ)) (made : OrchestratorRecord) → Fates fates → IsToldSo ids made line → EndsSo ending fates had has ids made) → IsBegun seen nodes known before after had has ending
+      → ((fates : List Fate) (ids : List (List ℕ)) (made : OrchestratorRecord) → Fates fates → IsToldSo ids made line → IsRecoveryEnd ending fates had has ids made) → IsBegun seen nodes known before after had has ending
   begun nodes known before mid after node_changes controller_changes new_changes line Fates ready given had has ending ends =
       let plan = ready.planned in
       let read = ready.of_nodes in
@@ -235,7 +235,7 @@ module _ {K : Type 0} (seen : K → Store) where
 -- ---- how it ends
 
 -- where a store refused
-pub ends-refused : (fault : KeepFault) → IsCommitEnd fault → (fates : List Fate) (had : Writer) (ids : List (List ℕ)) (made : OrchestratorRecord) → AreInTurn fates → EndsSo (ending_of_store fault) fates had had ids made
+pub ends-refused : (fault : KeepFault) → IsCommitEnd fault → (fates : List Fate) (had : Writer) (ids : List (List ℕ)) (made : OrchestratorRecord) → AreInTurn fates → IsRecoveryEnd (ending_of_store fault) fates had had ids made
 ends-refused faults.Device end fates had ids made turn = inl (turn, refl)
 ends-refused faults.NoMemory end fates had ids made turn = (turn, refl)
 ends-refused (faults.BadRecord place) end fates had ids made turn = absurd end

@@ -188,12 +188,12 @@ pub record IsNotRecovered {K : Type 0} (seen : K → Store) (nodes : List (List 
 
 -- how it ends that changed these stores, of which the last is the new one: all is done and told, or a front of the line is written where the writer
 -- failed; or a store refused
-abbrev pub EndsSo : Ending → List Fate → Writer → Writer → List (List ℕ) → OrchestratorRecord → Type 0
-EndsSo endings.Done fates had has given made = AllChange fates × (has.faults ≡ had.faults) × ((line : List ℕ) × IsRecoveryLine given made line × Appends had.contents has.contents (line ++ codes "\n"))
-EndsSo endings.Device fates had has given made =
+abbrev pub IsRecoveryEnd : Ending → List Fate → Writer → Writer → List (List ℕ) → OrchestratorRecord → Type 0
+IsRecoveryEnd endings.Done fates had has given made = AllChange fates × (has.faults ≡ had.faults) × ((line : List ℕ) × IsRecoveryLine given made line × Appends had.contents has.contents (line ++ codes "\n"))
+IsRecoveryEnd endings.Device fates had has given made =
     (AreInTurn fates × (has ≡ had)) ⊎ (AllChange fates × HasRisen had.faults has.faults × ((line : List ℕ) × IsRecoveryLine given made line × WritesFront had.contents has.contents (line ++ codes "\n")))
-EndsSo endings.Memory fates had has given made = AreInTurn fates × (has ≡ had)
-EndsSo _ fates had has given made = ⊥
+IsRecoveryEnd endings.Memory fates had has given made = AreInTurn fates × (has ≡ had)
+IsRecoveryEnd _ fates had has given made = ⊥
 
 -- Records were read, an orchestrator's record was made of them, and what each store is to get, before a store was changed; then the nodes' stores
 -- were changed in order, then the controller's, and then the new one, until one refused.
@@ -211,7 +211,7 @@ pub record IsBegun {K : Type 0} (seen : K → Store) (nodes : List (List ℕ)) (
   pub new_fate : Fate
   pub new_honest : (seen after.new).honest → (seen before.new).honest
   pub new_store : (seen after.new).honest → (content : List StoredPart) → (seen before.new).holds content → (content ≡ []) × IsLeft new_fate (seen after.new) [] (kept_parts made)
-  pub ends : EndsSo ending (map (λ node. node.fate) given ++ controller_fate ∷ new_fate ∷ []) had has (map (λ node. node.kept.id) given) made
+  pub ends : IsRecoveryEnd ending (map (λ node. node.fate) given ++ controller_fate ∷ new_fate ∷ []) had has (map (λ node. node.kept.id) given) made
 
 -- one or the other
 abbrev pub Recovers : {K : Type 0} → (K → Store) → List (List ℕ) → ℕ → Stores K → Stores K → Writer → Writer → Ending → Type 0

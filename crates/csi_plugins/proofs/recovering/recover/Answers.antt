@@ -6,7 +6,7 @@ use Rattle.csi_stores.specs.Public.Writing.{WritesFront}
 use Rattle.csi_endings.specs.declared.ending.Ending.{Ending}
 use Rattle.csi_endings.specs.declared.ending.Ending.TheVariants as endings
 use Rattle.csi_plugins.specs.Public.Recording.{written_by}
-use Rattle.csi_plugins.specs.Public.Recovering.{Fate, AllChange, AreInTurn, EndsSo, Recovers}
+use Rattle.csi_plugins.specs.Public.Recovering.{Fate, AllChange, AreInTurn, IsRecoveryEnd, Recovers}
 use Rattle.csi_plugins.specs.Private.Recovering.{changes_of, IsToldSo}
 use Rattle.csi_plugins.proofs.RecoveredStores.{begun, ends-refused, plan-many}
 use Rattle.csi_plugins.proofs.recovering.recover.Goals as goal
