@@ -4,6 +4,7 @@
 mod laws;
 mod pictures;
 mod process;
+mod recovery;
 mod stores;
 
 use process::ended;

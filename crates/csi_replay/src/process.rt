@@ -1,5 +1,6 @@
 //! What a process does that was started with some words.
 use crate::pictures::Pictures;
+use crate::recovery::{Paths, recover_at};
 use crate::stores::{serve_controller, serve_node, serve_orchestrator, tell};
 use csi_commands::stream;
 use csi_endings::{Ending, FileCommand};
@@ -38,6 +39,13 @@ fn carry_out(rt: &HostRuntime, line: CommandLine<'_>) -> Ending {
             session,
         } => serve_orchestrator(rt, store, config, session),
         CommandLine::Record(store) => tell(rt, store),
+        CommandLine::Recover {
+            new,
+            config,
+            session,
+            controller,
+            nodes,
+        } => recover_at(rt, config, session, &Paths { new, controller, nodes }),
     }
 }
 

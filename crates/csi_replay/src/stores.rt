@@ -44,8 +44,8 @@ fn done(closing: Result<(), KeepFault>) -> Ending
     }
 }
 
-// How a process ends whose store was closed so: that the log couldn't be put back is told where nothing else is.
-fn closed(ending: Ending, closing: Result<(), KeepFault>) -> Ending
+/// How a process ends whose stores were closed so: that a log couldn't be put back is told where nothing else is.
+pub(crate) fn closed(ending: Ending, closing: Result<(), KeepFault>) -> Ending
     ensures { result ≡ ending_closed ending closing }
 {
     match ending {
@@ -70,8 +70,8 @@ fn controller_of(rt: &(impl Files + AllocGlobal), path: &str) -> Result<Plugin, 
     }
 }
 
-// The nodes of the configuration in this file.
-fn nodes_of(rt: &(impl Files + AllocGlobal), path: &str) -> Result<Vec<NodeId>, Ending> {
+/// The nodes of the configuration in this file.
+pub(crate) fn nodes_of(rt: &(impl Files + AllocGlobal), path: &str) -> Result<Vec<NodeId>, Ending> {
     match fs::read(rt, path) {
         Ok(input) => asked_nodes(rt.alloc(), input.as_slice()),
         Err(error) => Err(Ending::of_device(error.kind())),

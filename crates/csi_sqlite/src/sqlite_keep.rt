@@ -37,7 +37,7 @@ use changing::change_at_once;
 pub use file::close_file;
 pub use found::{close_found, copies, find_at};
 pub use half_made::{BEGUN_LOG, is_half_made};
-pub use over::{OverStore, over_file, over_found};
+pub use over::{OverStore, OverStores, over_file, over_files_at, over_found};
 use reading::parts_of;
 
 /// A store in a SQLite database: a part is a row of the table `parts`, its key in eight bytes, the greatest first. A commit is

@@ -1,3 +1,5 @@
 mod Entered
 mod FilesAdded
 mod HelpBehind
+mod AddedWords
+mod AllTexts

@@ -7,11 +7,16 @@ ghost use Rattle.csi_words.specs.Public.Help.{help_asked as asked};
 ghost use Rattle.csi_words.specs.Public.Words.{
   command_entered,
   command_in as named_in,
+  few_in,
+  on_recover,
   on_session,
+  on_stores,
   controller_in,
   node_in,
   orchestrator_in,
   record_in,
+  recover_in,
+  texts_of,
   on_file_in,
   named_by,
   read,
@@ -23,12 +28,12 @@ ghost use Rattle.csi_words.specs.Private.Words.{IsAddedAs, ending_of_words, with
 
 use crate::help::{Help, help_asked};
 use clap::error::ErrorKind;
-use clap::{Arg, ArgMatches, Command, Error};
+use clap::{Arg, ArgAction, ArgMatches, Command, Error};
 use csi_endings::{Ending, FileCommand, ScheduleCommand};
 use std::alloc::{AllocError, Global};
 
 /// What the words name: a command, with the texts behind it, or the help that they ask for.
-#[derive(Clone, Copy, Debug, PartialEq, Eq)]
+#[derive(Debug, Drop)]
 pub enum CommandLine<'a> {
     /// `--help` or `-h`, alone or behind the name of a subcommand, or `--version` alone: what the help is about.
     Help(Help),
@@ -55,6 +60,15 @@ pub enum CommandLine<'a> {
     },
     /// `record DB`: the path of the store.
     Record(&'a str),
+    /// `recover NEW.db CONFIG SESSION CONTROLLER.db NODE.db..`: the path of the store that is made, that of the file of the configuration, the greatest
+    /// session that is known, of which nothing is asked yet, and the paths of the controller's store and of the nodes'.
+    Recover {
+        new: &'a str,
+        config: &'a str,
+        session: &'a str,
+        controller: &'a str,
+        nodes: Vec<&'a str>,
+    },
 }
 
 // A command of this name, which takes one word.
@@ -99,6 +113,22 @@ fn session_command<'a>(
     with_second.arg(session)
 }
 
+// The command that makes an orchestrator's store of the plugins' stores: a word for each, and any number of words more.
+fn recover_command<'a>(alloc: Global) -> Result<Command<'a>, AllocError>
+    ensures { IfOk result (IsAddedAs on_recover.top) }
+{
+    let new = Arg::new(alloc, "NEW").required(true);
+    let with_new = Command::new(alloc, "recover").arg(new)?;
+    let config = Arg::new(alloc, "CONFIG").required(true);
+    let with_config = with_new.arg(config)?;
+    let session = Arg::new(alloc, "SESSION").required(true);
+    let with_session = with_config.arg(session)?;
+    let controller = Arg::new(alloc, "CONTROLLER").required(true);
+    let with_controller = with_session.arg(controller)?;
+    let nodes = Arg::new(alloc, "NODE").action(ArgAction::Append);
+    with_controller.arg(nodes)
+}
+
 // The program with this command more, if there was memory to make it.
 fn with_command<'a>(
     program: Command<'a>,
@@ -129,9 +159,9 @@ fn with_file_commands<'a>(
     Ok(program)
 }
 
-// The program with all its commands.
-fn with_all_commands<'a>(alloc: Global) -> Result<Command<'a>, AllocError>
-    ensures { IfOk result (λ command. app_of command ≡ all_words) }
+// The program with its commands on files and on one store.
+fn with_store_commands<'a>(alloc: Global) -> Result<Command<'a>, AllocError>
+    ensures { IfOk result (λ command. app_of command ≡ on_stores) }
 {
     let bare = Command::new(alloc, "csi-replay").subcommand_required(true);
     let names = ["answer", "show", "run", "frames", "draw"];
@@ -140,6 +170,14 @@ fn with_all_commands<'a>(alloc: Global) -> Result<Command<'a>, AllocError>
     let five = with_command(four, session_command(alloc, "node", "ID"))?;
     let six = with_command(five, session_command(alloc, "orchestrator", "CONFIG"))?;
     with_command(six, one_word_command(alloc, "record", "DB"))
+}
+
+// The program with all its commands.
+fn with_all_commands<'a>(alloc: Global) -> Result<Command<'a>, AllocError>
+    ensures { IfOk result (λ command. app_of command ≡ all_words) }
+{
+    let stores = with_store_commands(alloc)?;
+    with_command(stores, recover_command(alloc))
 }
 
 // What the words mean to `clap`.
@@ -218,9 +256,63 @@ fn record<'a>(matches: &ArgMatches<'a>) -> Option<CommandLine<'a>>
     Some(CommandLine::Record(store))
 }
 
-// The command of this name, with its words.
+// The same texts again.
+fn copied_texts<'a>(alloc: Global, found: &[&'a str]) -> Result<Vec<&'a str>, AllocError>
+    ensures { IfOk result (λ texts. map (λ text. text.now) texts.items ≡ map (λ text. text.now) found.now) }
+{
+    let mut texts = Vec::new(alloc);
+    for text in found {
+        texts.push(*text)?;
+    }
+    Ok(texts)
+}
+
+// The texts of the word that is called so, however many there are.
+fn texts<'a>(
+    alloc: Global,
+    matches: &ArgMatches<'a>,
+    id: &str,
+) -> Result<Vec<&'a str>, AllocError>
+    ensures { IfOk result (λ texts. map (λ text. text.now) texts.items ≡ texts_of id.now (rows_of (found_of matches.now))) }
+{
+    match matches.get_strs(id) {
+        Some(found) => copied_texts(alloc, found),
+        None => Ok(Vec::new(alloc)),
+    }
+}
+
+// The store that is made, and those that it is made of.
+fn recover<'a>(
+    alloc: Global,
+    matches: &ArgMatches<'a>,
+) -> Result<Option<CommandLine<'a>>, AllocError>
+    ensures { IfOk result (λ line. option_map named_by line ≡ recover_in (rows_of (found_of matches.now))) }
+{
+    let nodes = texts(alloc, matches, "NODE")?;
+    let Some(new) = word(matches, "NEW") else {
+        return Ok(None);
+    };
+    let Some(config) = word(matches, "CONFIG") else {
+        return Ok(None);
+    };
+    let Some(session) = word(matches, "SESSION") else {
+        return Ok(None);
+    };
+    let Some(controller) = word(matches, "CONTROLLER") else {
+        return Ok(None);
+    };
+    Ok(Some(CommandLine::Recover {
+        new,
+        config,
+        session,
+        controller,
+        nodes,
+    }))
+}
+
+// The command of this name, with its words, where they are few.
 fn command_of<'a>(name: &str, matches: &ArgMatches<'a>) -> Option<CommandLine<'a>>
-    ensures { option_map named_by result ≡ named_in name.now (rows_of (found_of matches.now)) }
+    ensures { option_map named_by result ≡ few_in name.now (rows_of (found_of matches.now)) }
 {
     match name {
         "answer" => on_file(matches, FileCommand::Answer),
@@ -236,12 +328,31 @@ fn command_of<'a>(name: &str, matches: &ArgMatches<'a>) -> Option<CommandLine<'a
     }
 }
 
-// The command that was entered, with its words.
-fn command_in<'a>(matches: &ArgMatches<'a>) -> Option<CommandLine<'a>>
-    ensures { option_map named_by result ≡ command_entered (subcommand_rows_of matches.now) }
+// The command of this name, with its words.
+fn any_command_of<'a>(
+    alloc: Global,
+    name: &str,
+    matches: &ArgMatches<'a>,
+) -> Result<Option<CommandLine<'a>>, AllocError>
+    ensures { IfOk result (λ line. option_map named_by line ≡ named_in name.now (rows_of (found_of matches.now))) }
 {
-    let (name, command) = matches.subcommand()?;
-    command_of(name, command)
+    match name {
+        "recover" => recover(alloc, matches),
+        _ => Ok(command_of(name, matches)),
+    }
+}
+
+// The command that was entered, with its words.
+fn command_in<'a>(
+    alloc: Global,
+    matches: &ArgMatches<'a>,
+) -> Result<Option<CommandLine<'a>>, AllocError>
+    ensures { IfOk result (λ line. option_map named_by line ≡ command_entered (subcommand_rows_of matches.now)) }
+{
+    match matches.subcommand() {
+        Some((name, command)) => any_command_of(alloc, name, command),
+        None => Ok(None),
+    }
 }
 
 /// The command that the words name, with the texts behind it, or the help that they ask for, which takes no memory; `words` begins with the
@@ -261,8 +372,9 @@ pub fn parse<'a>(alloc: Global, words: &'a [String]) -> Result<CommandLine<'a>, 
         Ok(matches) => matches,
         Err(error) => return Err(ending_of(error.kind())),
     };
-    match command_in(&matches) {
-        Some(line) => Ok(line),
-        None => Err(Ending::Usage),
+    match command_in(alloc, &matches) {
+        Ok(Some(line)) => Ok(line),
+        Ok(None) => Err(Ending::Usage),
+        Err(_) => Err(Ending::Memory),
     }
 }

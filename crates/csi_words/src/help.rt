@@ -27,6 +27,8 @@ pub enum Help {
     Orchestrator,
     /// `record DB`.
     Record,
+    /// `recover NEW.db CONFIG SESSION CONTROLLER.db NODE.db..`.
+    Recover,
 }
 
 // The help that this word alone asks for.
@@ -54,6 +56,7 @@ fn help_on(name: &str) -> Option<Help>
         "node" => Some(Help::Node),
         "orchestrator" => Some(Help::Orchestrator),
         "record" => Some(Help::Record),
+        "recover" => Some(Help::Recover),
         _ => None,
     }
 }

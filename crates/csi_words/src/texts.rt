@@ -19,6 +19,8 @@ Subcommands:
   node DB ID [SESSION]    serve as a node
   orchestrator DB CONFIG [SESSION]  serve as the orchestrator, asked by lines
   record DB               print what a store has
+  recover NEW.db CONFIG SESSION CONTROLLER.db NODE.db..  make a lost
+                          orchestrator's store
 
 FILE is read, and may be /dev/stdin. DB is a store, a SQLite file. CONFIG is a
 file of JSON. A word that begins with - stands behind --.
@@ -174,6 +176,29 @@ Example: csi-replay record volumes.db
 More: csi-replay --help
 ";
 
+const RECOVER: &str = "\
+Usage: csi-replay recover NEW.db CONFIG SESSION CONTROLLER.db NODE.db..
+
+Makes the store of a new orchestrator, where the old one's is lost, of what the
+plugins' stores have, and prints what it made as one line of JSON. Everything is
+stopped. Every call that was ever sent is stale then. The old orchestrator must
+never come back, nor a node whose store isn't given.
+
+  NEW.db         the store that is made, a SQLite file, missing or without parts
+  CONFIG         a file of JSON, as the orchestrator's: its nodes; no node where
+                 something is staged may be left out
+  SESSION        the greatest session that is known of the lost orchestrator, or
+                 0 if none is
+  CONTROLLER.db  the controller's store
+  NODE.db        a node's store, for each node that isn't lost
+
+After exit status 3, or if it was cut off, run it again.
+
+Example: csi-replay recover new.db config 7 volumes.db n1.db n2.db
+
+More: csi-replay --help
+";
+
 impl Help {
     /// The text, with a newline at its end. This profile's own.
     pub fn text(self) -> &'static str {
@@ -189,6 +214,7 @@ impl Help {
             Help::Node => NODE,
             Help::Orchestrator => ORCHESTRATOR,
             Help::Record => RECORD,
+            Help::Recover => RECOVER,
         }
     }
 }

@@ -4,13 +4,19 @@ ghost use Rattle.std.specs.Prelude.{◌≡◌, ◌⊎◌, codes, IsErr, IfErr};
 
 use crate::sqlite_keep::{SqliteKeep, close_file, close_found, find_at};
 use csi_stores::{Keep, KeepFault};
-use sqlite::{Alter, FileStore, Unknown};
+use sqlite::{Alter, FileFrom, FileStore, Unknown};
 use sqlite_disk::Disk;
 
 /// What is done over a store: the caller's. This profile's own.
 pub trait OverStore<T> {
     /// Does it over this store, and answers what came of it.
     fn run<K: Keep>(self, rt: &HostRuntime, keep: &mut K) -> T;
+}
+
+/// What is done over several stores: the caller's. This profile's own.
+pub trait OverStores<T> {
+    /// Does it over these stores, in the order of their paths, and answers what came of it.
+    fn run<K: Keep>(self, rt: &HostRuntime, keeps: &mut [K]) -> T;
 }
 
 // Does it over this store.
@@ -61,4 +67,81 @@ pub fn over_found<T, P: OverStore<T> + Drop>(
     let answer = over_files(rt, process, &mut keep);
     close_found(keep);
     Ok(answer)
+}
+
+// Does it over these stores.
+fn over_all<S: Alter, T, P: OverStores<T>>(
+    rt: &HostRuntime,
+    process: P,
+    keeps: &mut [SqliteKeep<S>],
+) -> T {
+    process.run(rt, keeps)
+}
+
+// The same of stores in files.
+fn over_all_files<D: Disk + Drop, T, P: OverStores<T>>(
+    rt: &HostRuntime,
+    process: P,
+    keeps: &mut [SqliteKeep<FileStore<D>>],
+) -> T {
+    over_all(rt, process, keeps)
+}
+
+// The stores in the files at these paths, in order. Where one can't be opened, those before it are closed.
+fn opened(
+    rt: &HostRuntime,
+    paths: &[&str],
+) -> Result<Vec<SqliteKeep<FileStore<FileFrom<Unknown>>>>, KeepFault>
+    ensures cause { IfErr result (λ fault. (fault ≡ KeepFault.Device) ⊎ (fault ≡ KeepFault.NoMemory)) }
+{
+    let mut keeps = match Vec::with_capacity(rt.alloc(), paths.len()) {
+        Ok(keeps) => keeps,
+        Err(_) => return Err(KeepFault::NoMemory),
+    };
+    for path in paths {
+        let keep = match SqliteKeep::open_file(rt, path, Unknown) {
+            Ok(keep) => keep,
+            Err(fault) => {
+                let _ = close_all(keeps);
+                return Err(fault);
+            }
+        };
+        match keeps.push(keep) {
+            Ok(()) => {}
+            Err(_) => {
+                let _ = close_all(keeps);
+                return Err(KeepFault::NoMemory);
+            }
+        }
+    }
+    Ok(keeps)
+}
+
+// Closes them, and answers what the first of them answered that can't be closed.
+fn close_all(keeps: Vec<SqliteKeep<FileStore<FileFrom<Unknown>>>>) -> Result<(), KeepFault> {
+    let mut closing = Ok(());
+    for keep in keeps {
+        let one = close_file(keep);
+        if closing.is_ok() {
+            closing = one;
+        }
+    }
+    closing
+}
+
+/// Does this over the stores in the SQLite files at these paths, as `over_file` does over one: all are open before it is done, and are closed
+/// then. Where one of them can't be opened, nothing is done.
+pub fn over_files_at<T, P: OverStores<T> + Drop>(
+    rt: &HostRuntime,
+    paths: &[&str],
+    process: P,
+) -> Result<(T, Result<(), KeepFault>), KeepFault>
+    ensures cause { IfErr result (λ fault. (fault ≡ KeepFault.Device) ⊎ (fault ≡ KeepFault.NoMemory)) }
+{
+    let mut keeps = match opened(rt, paths) {
+        Ok(keeps) => keeps,
+        Err(fault) => return Err(fault),
+    };
+    let answer = over_all_files(rt, process, keeps.as_mut_slice());
+    Ok((answer, close_all(keeps)))
 }

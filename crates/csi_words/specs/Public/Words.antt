@@ -1,6 +1,7 @@
 -- The words of the command line, over what `clap` reads of them. This profile's own.
-use Rattle.std.specs.Prelude.{ℕ, List, Option, None, option_map, option_and_then, codes, bytes_eq, if◌then◌else◌, true}
-use Rattle.clap.specs.Words.{App, Row, first_of, new_app, new_rule, subcommand_of, with_rule, with_subcommand}
+use Rattle.std.specs.Prelude.{ℕ, List, [], map, Option, Some, None, option_map, option_and_then, unwrap_or, codes, bytes_eq, if◌then◌else◌, true}
+use Rattle.clap.specs.declared.builder.action.ArgAction.TheVariants.{Append}
+use Rattle.clap.specs.Words.{App, Row, all_of, first_of, new_app, new_rule, subcommand_of, with_rule, with_subcommand}
 use Rattle.csi_endings.specs.declared.command.FileCommand.{FileCommand}
 use Rattle.csi_endings.specs.declared.command.FileCommand.TheVariants.{Answer, Show, Schedule}
 use Rattle.csi_endings.specs.declared.command.ScheduleCommand.TheVariants.{Run, Frames, Draw}
@@ -18,6 +19,7 @@ pub data Named : Type 0 where
   Node : (store id : List ℕ) (session : Option (List ℕ)) → Named
   Orchestrator : (store config : List ℕ) (session : Option (List ℕ)) → Named
   Record : (store : List ℕ) → Named
+  Recover : (new config session controller : List ℕ) (nodes : List (List ℕ)) → Named
 
 -- what a command line has
 abbrev pub named_by : CommandLine → Named
@@ -27,6 +29,7 @@ named_by (lines.Controller store config) = Controller store.now config.now
 named_by (lines.Node store id session) = Node store.now id.now (option_map (λ word. word.now) session)
 named_by (lines.Orchestrator store config session) = Orchestrator store.now config.now (option_map (λ word. word.now) session)
 named_by (lines.Record store) = Record store.now
+named_by (lines.Recover new config session controller nodes) = Recover new.now config.now session.now controller.now (map (λ node. node.now) nodes.items)
 
 -- one word more, which has to be there
 abbrev pub with_word : App → List ℕ → App
@@ -35,6 +38,10 @@ with_word app id = with_rule app (record (new_rule id) { required = true })
 -- one word more, which may be left out
 abbrev pub with_optional_word : App → List ℕ → App
 with_optional_word app id = with_rule app (new_rule id)
+
+-- any number of words more, which are called so
+abbrev pub with_words : App → List ℕ → App
+with_words app id = with_rule app (record (new_rule id) { action = Some Append })
 
 -- a command of this name, with one word more, which is called so
 abbrev pub with_one_word : App → List ℕ → List ℕ → App
@@ -68,9 +75,17 @@ with_session_command app name second = with_subcommand app (on_session name seco
 abbrev pub on_plugins : App
 on_plugins = with_session_command (with_store_command on_files (codes "controller") (codes "CONFIG")) (codes "node") (codes "ID")
 
+-- its commands on one store
+abbrev pub on_stores : App
+on_stores = with_one_word (with_session_command on_plugins (codes "orchestrator") (codes "CONFIG")) (codes "record") (codes "DB")
+
+-- the command that makes an orchestrator's store of the controller's and of nodes' stores: the last words, as many as there are
+abbrev pub on_recover : App
+on_recover = with_words (with_word (with_word (with_word (with_word (new_app (codes "recover")) (codes "NEW")) (codes "CONFIG")) (codes "SESSION")) (codes "CONTROLLER")) (codes "NODE")
+
 -- all commands
 abbrev pub program : App
-program = with_one_word (with_session_command on_plugins (codes "orchestrator") (codes "CONFIG")) (codes "record") (codes "DB")
+program = with_subcommand on_stores on_recover.top
 
 -- the first values of the words of each command
 abbrev pub on_file_in : FileCommand → List Row → Option Named
@@ -96,9 +111,19 @@ orchestrator_in rows = both (λ store config. Orchestrator store config (first_o
 abbrev pub record_in : List Row → Option Named
 record_in rows = option_map (λ store. Record store) (first_of (codes "DB") rows)
 
--- the command of a name, with its words
-abbrev pub command_in : List ℕ → List Row → Option Named
-command_in name rows =
+-- the values of a word, however many there are
+abbrev pub texts_of : List ℕ → List Row → List (List ℕ)
+texts_of id rows = unwrap_or (all_of id rows) []
+
+-- the recovery of an orchestrator's store
+abbrev pub recover_in : List Row → Option Named
+recover_in rows =
+    option_and_then (λ new. option_and_then (λ config. option_and_then (λ session. option_map (λ controller. Recover new config session controller (texts_of (codes "NODE") rows))
+    (first_of (codes "CONTROLLER") rows)) (first_of (codes "SESSION") rows)) (first_of (codes "CONFIG") rows)) (first_of (codes "NEW") rows)
+
+-- the command of a name, with its few words
+abbrev pub few_in : List ℕ → List Row → Option Named
+few_in name rows =
     if bytes_eq name (codes "answer") then on_file_in Answer rows
     else if bytes_eq name (codes "show") then on_file_in Show rows
     else if bytes_eq name (codes "run") then on_file_in (Schedule Run) rows
@@ -109,6 +134,10 @@ command_in name rows =
     else if bytes_eq name (codes "orchestrator") then orchestrator_in rows
     else if bytes_eq name (codes "record") then record_in rows
     else None
+
+-- the command of a name, with its words
+abbrev pub command_in : List ℕ → List Row → Option Named
+command_in name rows = if bytes_eq name (codes "recover") then recover_in rows else few_in name rows
 
 -- of a command that was entered
 abbrev pub command_entered : Option (List ℕ × List Row) → Option Named

@@ -1,17 +1,9 @@
 -- One word after another is added.
-use Rattle.std.proofs.Common.{◌≡◌, ◌∙◌, ap, codes, rules, true, false, Bool}
-use Rattle.std.specs.Prelude.{◌||◌}
+use Rattle.std.proofs.Common.{◌≡◌, ◌∙◌, ap, codes, rules, true, false}
 use Rattle.std.proofs.lemmas.Result.{IfOk-weaker}
-use Rattle.clap.specs.Words.{App, Rule, app_of, new_rule, rule_of, with_rule, with_subcommand}
+use Rattle.clap.specs.Words.{App, app_of, new_rule, rule_of, with_subcommand}
+use Rattle.csi_words.proofs.AddedWords.{still_local, added}
 use Rattle.csi_words.proofs.command_line.session_command.Goals as goal
-
--- a word that is no global one, added to a command without such
-still_local : (new old word : Bool) → new ≡ (old || word) → old ≡ false → word ≡ false → new ≡ false
-still_local new old word is none local = is ∙ (λ i. none i || local i)
-
--- and what the command is then
-added : (new old app : App) (own rule : Rule) → new ≡ with_rule old own → old ≡ app → own ≡ rule → new ≡ with_rule app rule
-added new old app own rule is was ruled = is ∙ (λ i. with_rule (was i) (ruled i))
 
 pub returns : goal.returns
 returns c =
