@@ -45,7 +45,16 @@ fn carry_out(rt: &HostRuntime, line: CommandLine<'_>) -> Ending {
             session,
             controller,
             nodes,
-        } => recover_at(rt, config, session, &Paths { new, controller, nodes }),
+        } => recover_at(
+            rt,
+            config,
+            session,
+            &Paths {
+                new,
+                controller,
+                nodes,
+            },
+        ),
     }
 }
 

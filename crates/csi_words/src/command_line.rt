@@ -268,11 +268,7 @@ fn copied_texts<'a>(alloc: Global, found: &[&'a str]) -> Result<Vec<&'a str>, Al
 }
 
 // The texts of the word that is called so, however many there are.
-fn texts<'a>(
-    alloc: Global,
-    matches: &ArgMatches<'a>,
-    id: &str,
-) -> Result<Vec<&'a str>, AllocError>
+fn texts<'a>(alloc: Global, matches: &ArgMatches<'a>, id: &str) -> Result<Vec<&'a str>, AllocError>
     ensures { IfOk result (λ texts. map (λ text. text.now) texts.items ≡ texts_of id.now (rows_of (found_of matches.now))) }
 {
     match matches.get_strs(id) {
