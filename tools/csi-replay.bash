@@ -5,7 +5,7 @@ _csi_replay() {
     case "$COMP_CWORD ${COMP_WORDS[1]} $word" in
         "1 "*) mapfile -t COMPREPLY < <(compgen -W "$subcommands --help --version" -- "$word") ;;
         "2 "*" -"*) mapfile -t COMPREPLY < <(compgen -W "--help" -- "$word") ;;
-        "2 "* | "3 controller "* | "3 orchestrator "* | [3567890]" recover "* | 1[0-9]" recover "*) mapfile -t COMPREPLY < <(compgen -f -- "$word") ;;
+        "2 "* | "3 controller "* | "3 orchestrator "* | "3 recover "* | [5-9]" recover "* | [1-9][0-9]" recover "*) mapfile -t COMPREPLY < <(compgen -f -- "$word") ;;
     esac
 }
 complete -o filenames -F _csi_replay csi-replay

@@ -11,6 +11,7 @@ HERE = os.path.dirname(os.path.realpath(__file__))
 TOP = os.path.dirname(os.path.dirname(HERE))
 ASKS = "$ csi-replay "
 WORDS = {**{name: "FILE" for name in ON_FILES}, "controller": "DB CONFIG", "node": "DB ID [SESSION]", "orchestrator": "DB CONFIG [SESSION]", "record": "DB"}
+WORDS["recover"] = "NEW.db CONFIG SESSION CONTROLLER.db NODE.db.."
 
 
 def texts():
@@ -92,7 +93,7 @@ def completions(box):
     prepare(box)
     rows = [
         (("",), [*TAKEN, "--help", "--version"]),
-        (("re",), ["record"]),
+        (("re",), ["record", "recover"]),
         (("--",), ["--help", "--version"]),
         (("show", "-"), ["--help"]),
         (("show", "con"), ["config"]),
@@ -104,6 +105,11 @@ def completions(box):
         (("node", "con"), ["config"]),
         (("node", "db", "con"), []),
         (("record", "db", "con"), []),
+        (("recover", ""), ["config", "f"]),
+        (("recover", "db", "con"), ["config"]),
+        (("recover", "db", "config", "con"), []),
+        (("recover", "db", "config", "0", "con"), ["config"]),
+        (("recover", "db", "config", "0", "f", "f", "f", "con"), ["config"]),
     ]
     for words, right in rows:
         asked = [need("bash"), "-c", COMPLETING, f"{TOP}/tools/csi-replay.bash", "csi-replay", *words]

@@ -5,7 +5,7 @@ from .frames import create
 from .running import as_nobody, ended, of_rows, wanted
 
 ON_FILES = ("answer", "show", "run", "frames", "draw")
-TAKEN = {**{name: (1,) for name in ON_FILES}, "controller": (2,), "node": (2, 3), "orchestrator": (2, 3), "record": (1,)}  # how many words each takes
+TAKEN = {**{name: (1,) for name in ON_FILES}, "controller": (2,), "node": (2, 3), "orchestrator": (2, 3), "record": (1,), "recover": (4, 5)}
 USAGE = ended(2, "usage")
 
 
@@ -23,7 +23,7 @@ def refused(box, *words):
 
 
 def counts(box):
-    """Each subcommand with any other count of words than it takes."""
+    """Each subcommand with any other count of words than it takes; more than five, which `recover` takes, aren't asked for."""
     before = prepare(box)
     for name, right in TAKEN.items():
         for count in range(6):
