@@ -75,11 +75,11 @@ type seeing struct {
 }
 
 func (it seeing) ServerHandshake(raw net.Conn) (net.Conn, credentials.AuthInfo, error) {
-	secured, info, err := it.TransportCredentials.ServerHandshake(raw)
+	shaken, info, err := it.TransportCredentials.ServerHandshake(raw)
 	if by, ok := info.(credentials.TLSInfo); ok && err == nil {
 		it.seen.note(by.State.PeerCertificates)
 	}
-	return secured, info, err
+	return shaken, info, err
 }
 
 func (it seeing) Clone() credentials.TransportCredentials {
