@@ -95,7 +95,8 @@ def bad_parts(box):
         for place in (1, 2 + count % 2):
             folder = f"{what}, store {place}".replace("/", " ")
             os.mkdir(box.at(folder))
-            fault = at if kind == (b"\0" if place == 1 else b"\1") else 0
+            is_foreign = any(len(key) != 8 for key, _ in parts)  # no list of parts: what is none is at fault, whatever the head says
+            fault = at if is_foreign or kind == (b"\0" if place == 1 else b"\1") else 0
             no_record(type(box)(box.program, box.at(folder)), place, parts, fault)
 
 
