@@ -385,7 +385,7 @@ static void many(void) {
     stride = 0;
     makes(&of.controller, of_record(controller_of(config), record_of(&controller, 3)), TUFAYON_DONE, &controller, &none);
     for (int node = 0; node < MOST_NODES; node++) {
-        char id[8];
+        char id[16];
         snprintf(id, sizeof id, "m%d", node);
         makes(&of.nodes[node], of_record(node_of(id), record_of(&given[node], 3)), TUFAYON_DONE, &given[node], &none);
     }
