@@ -19,7 +19,7 @@ from .streams import limited as with_memory
 
 WRITING = {"pwrite64": "ENOSPC", "ftruncate": "EIO", "fsync": "EIO", "fdatasync": "EIO"}
 ENDS = ("", "-wal", "-shm", "-journal")
-SECONDS, FULL_ROOM = 30, 1024 * MB  # with nothing beside it takes 1.6 s; and 550 MB, 8 for each store
+SECONDS, FULL_ROOM = 30, 1024 * MB  # beside two proofs it took 1.6 to 2.1 s; and 550 MB, 8 for each store
 
 
 class Cut:
