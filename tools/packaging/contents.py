@@ -27,7 +27,7 @@ CONTENTS = {
         *(f"etc/tufayon/example/{it}.json" for it in (*PARTS, "set")),
         "usr/share/bash-completion/completions/tufayonctl", "usr/share/zsh/vendor-completions/_tufayonctl", "usr/share/fish/vendor_completions.d/tufayonctl.fish",
         *(f"usr/share/tufayon/prometheus/{os.path.basename(it)}" for it in glob.glob(f"{TOP}/deploy/prometheus/*") if not it.endswith("_test.yml")),
-        *(f"usr/share/doc/tufayon-service/{it}.md" for it in ("OPERATING", "SERVICE", "DRIVER", "UPSTREAM", "CHANGELOG")),
+        *(f"usr/share/doc/tufayon-service/{it}.md" for it in ("YEAR", "OPERATING", "SERVICE", "DRIVER", "UPSTREAM", "CHANGELOG")),
     },
 }
 

@@ -29,7 +29,7 @@ lay_service() {
     for it in "$top"/deploy/prometheus/*; do
         case "$it" in *'/*' | *_test.yml) ;; *) lay "$it" "usr/share/tufayon/prometheus/${it##*/}" ;; esac
     done
-    for it in OPERATING SERVICE DRIVER UPSTREAM CHANGELOG; do lay "$top/docs/$it.md" "usr/share/doc/tufayon-service/$it.md"; done
+    for it in YEAR OPERATING SERVICE DRIVER UPSTREAM CHANGELOG; do lay "$top/docs/$it.md" "usr/share/doc/tufayon-service/$it.md"; done
     "$1/tufayonctl" completion bash > "$work/completion" && lay "$work/completion" usr/share/bash-completion/completions/tufayonctl
     "$1/tufayonctl" completion zsh > "$work/completion" && lay "$work/completion" usr/share/zsh/vendor-completions/_tufayonctl
     "$1/tufayonctl" completion fish > "$work/completion" && lay "$work/completion" usr/share/fish/vendor_completions.d/tufayonctl.fish

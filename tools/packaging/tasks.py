@@ -1,4 +1,4 @@
-"""What an operator does with a set on five machines, by the commands of docs/SERVICE.md: three have a server of etcd and an orchestrator, two of these a
+"""What an operator does with a set on five machines, by the commands of docs/YEAR.md: three have a server of etcd and an orchestrator, two of these a
 controller, and each is a node."""
 import re
 import shutil
@@ -60,6 +60,11 @@ class Set:
 
 def install(machine, packages, back=""):
     machine(f"cd {packages} && apt-get install -y {back}./tufayon*.deb")
+
+
+def install_etcd(system):
+    for number in THREE:
+        system[number]("apt-get install -y etcd-server etcd-client")
 
 
 def starts_nothing(machine):
@@ -357,6 +362,57 @@ etcdctl member add m{number} --peer-urls=https://{NETWORK}.{number}:2380""")
     reached(system)
     _, said = system[1](f"{MEMBERS}etcdctl endpoint health --cluster")
     need("three members", said.count("is healthy") == 3, said)
+
+
+# ---- an orchestrator that lost its store
+
+
+def carry(source, path, target, to):
+    """Copies a file from one machine over a file of another, which keeps its owner and mode where it is there."""
+    _, packed = source(f"gzip -c {path} | base64 -w 0")
+    target(f"echo {packed} | base64 -d | gunzip > {to}")
+
+
+RECOVER = f"""sed '/"set"\\|"staging"\\|"controllers"/d; s/, "address": "[^"]*"//' /etc/tufayon/s1/set.json > config
+export ETCD={','.join(f'https://{NETWORK}.{it}:2379' for it in THREE)} OF=/etc/tufayon/s1/etcd-controller
+csi-driver recover --etcd $ETCD --etcd-ca $OF/ca.pem --etcd-cert $OF/cert.pem --etcd-key $OF/key.pem \\
+    --prefix /tufayon/s1/controller --new-prefix /tufayon/s1/recovered config 0 stores/*.db"""
+
+
+def recover(system, used, dead):
+    """What the orchestrator has in etcd is gone, and so is the machine of a node. Its store is made anew, and goes on; a volume is in use at another node."""
+    system.told("create u --size 1G --wait", "u .* yes")
+    system.told(f"use u m{dead} /srv/u --wait", f"m{dead}:/srv/u")
+    system[1](f"{MEMBERS}etcdctl del --prefix /tufayon/{SET}/orchestrator/")
+    for number in THREE:
+        system[number](f"systemctl restart tufayon-orchestrator@{SET}", check=False)
+    for number in THREE:
+        soon(f"m{number}: older store", lambda at=number: "older store" in system[at](f"journalctl -u tufayon-orchestrator@{SET} --no-pager -n 20", check=False)[1]
+             and system[at](f"systemctl is-failed tufayon-orchestrator@{SET}", check=False)[1].strip() == "failed", within=120)
+    system[dead].kill()
+    for machine in system.up():
+        machine("systemctl stop tufayon-orchestrator@s1 tufayon-controller@s1 tufayon-node@s1")
+        need(f"{machine.name}: the store is one file", "node.db-wal" not in machine(f"ls {STORES}/node")[1])
+        system[1]("mkdir -p -m 700 /root/stores")
+        carry(machine, f"{STORES}/node/node.db", system[1], f"/root/stores/{machine.name}.db")
+    _, said = system[1](f"cd /root\n{RECOVER}")
+    told = re.search(rf'{{"lost":\["m{dead}"\],"session":(\d+),"volumes":2,"wanted":\[\]}}', said)
+    need("what was recovered", told, said)
+    for machine in system.up():
+        carry(system[1], f"/root/stores/{machine.name}.db", machine, f"{STORES}/node/node.db")
+    for number in system.of("orchestrator"):
+        system[number]("""sed -i 's,"/tufayon/s1/orchestrator","/tufayon/s1/recovered",' /etc/tufayon/s1/orchestrator.json""")
+    for part in ("node", "controller", "orchestrator"):
+        for number in system.of(part):
+            system[number](f"systemctl start tufayon-{part}@{SET}")
+    reached(system)
+    system.told("list", rf"v .* m{used}:/srv/v", rf"u .* m{dead}")
+    need("the volume in use is there", system[used]("mountpoint -q /srv/v && cat /srv/v/file")[1] == "kept\n")
+    system.told(f"stop u m{dead} /srv/u --wait")
+    system.told("use u m2 /srv/u --wait", "m2:/srv/u")
+    system.told("stop u m2 /srv/u --wait")
+    system.told("delete u --wait")
+    join(system, dead, told.group(1))
 
 
 # ---- taking it away
