@@ -29,10 +29,10 @@ def soon(told, ask, within=60):
 
 
 class Set:
-    """The machines, by their numbers. Who asks is the client `admin`, on the first that is up."""
+    """The machines, by their numbers, and one that may come later. Who asks is the client `admin`, on the first that is up."""
 
-    def __init__(self, machines):
-        self.machines = machines
+    def __init__(self, machines, spare):
+        self.machines, self.spare = machines, spare
 
     def __getitem__(self, number):
         return self.machines[number]
@@ -67,6 +67,22 @@ def install_etcd(system):
         system[number]("apt-get install -y etcd-server etcd-client")
 
 
+def unpack(machine, packages):
+    """The same without packages: the tarball's programs run, and systemd has its units. It is an empty machine behind it."""
+    machine(f"set -e; cd {packages}\ntar -C / -xf tufayon-*.tar.xz\nsystemd-sysusers\nsystemd-tmpfiles --create\nsystemctl daemon-reload")
+    machine(f"test -L /lib && test -d /var/lib/tufayon && getent passwd tufayon-controller && systemctl cat tufayon-node@{SET}")
+    demonstrate(machine)
+    machine.kill()
+    machine.empty()
+    machine.start()
+
+
+def demonstrate(machine):
+    """A set on one machine, as somebody who isn't root."""
+    machine("runuser -u nobody -- sh -c 'set -e; cd /tmp\ntufayon-demo start\ntufayon-demo show\ntufayon-demo stop'")
+    need("the demonstration left nothing", machine("ls -d /tmp/tufayon-demo*", check=False)[0] != 0)
+
+
 def starts_nothing(machine):
     """After an installation nothing runs, and nothing will."""
     _, running = machine("systemctl list-units --all --no-legend 'tufayon-*'")
@@ -83,7 +99,7 @@ def programs(machine):
     machine("cd /packages/old && apt-get install -y ./libtufayon-dev*.deb && grep -q '^Version: ' /usr/lib/x86_64-linux-gnu/pkgconfig/tufayon.pc")
     _, said = machine("ldd /usr/bin/tufayonctl")
     need("tufayonctl wants what only stores need", "libc.so" in said and "sqlite" not in said, said)
-    machine("tufayon-demo start && tufayon-demo show && tufayon-demo stop")
+    demonstrate(machine)
 
 
 # ---- names and certificates
@@ -193,6 +209,8 @@ def use(system):
     need("a second node is refused", status == 1 and "HeldElsewhere" in said, said)
     system.told("list", r"v .* m4:/srv/v")
     system.told("get v", "m4:/srv/v")
+    status, said = system[1](f"{CLIENT}timeout 3 tufayonctl watch", check=False)
+    need("watch begins with what there is, and goes on", status == 124 and "m4:/srv/v" in said, said)
 
 
 def move(system, source, target):
@@ -269,13 +287,43 @@ def put_back(system, number):
 def listed(system, without):
     """Leaves a node out of the list, and takes it in again."""
     for command in (f"sed -i.before '/\"id\": \"m{without}\"/d' {FILES}/set.json", f"mv {FILES}/set.json.before {FILES}/set.json"):
-        for number in system.of("orchestrator"):
+        for number in THREE:
             system[number](command)
-            system[number](f"systemctl reload tufayon-orchestrator@{SET}")
-        is_there = "mv" in command
-        soon("another list", lambda want=is_there: (f"node:m{without} " in system.ask("nodes")[1]) == want)
-        for number in system.of("controller"):
-            system[number](f"systemctl reload tufayon-controller@{SET}")
+        read_anew(system, lambda said, want="mv" in command: (f"node:m{without} " in said) == want)
+
+
+def add(system, packages):
+    """A machine more is a node, and goes again."""
+    listed_on, line = (*THREE, 6), f'{{"id": "m6", "slots": 128, "address": "{NETWORK}.6:7002"}}'
+    machine = system.machines[6] = system.spare
+    machine.start()
+    install(machine, packages)
+    machine(f"mkdir -p {FILES} && cp /etc/tufayon/example/*.json {FILES} && sed -i 's,example,{SET},g' {FILES}/*.json && sed -i 's/\"node\": \"m1\"/\"node\": \"m6\"/' {FILES}/node.json")
+    system[1](f"cd /root && tufayon-certificates ca {SET} node/m6")
+    bring(system, "node-m6", 6, f"{FILES}/node", "root")
+    for number in listed_on:
+        system[number](f"sed -i.before 's|^ *{{\"id\": \"m5\".*|&,\\n    {line}|' {FILES}/set.json")
+    machine(f"tufayon-node --check {FILES}/node.json && systemctl enable --now tufayon-node@{SET}")
+    read_anew(system, lambda said: "node:m6 " in said)
+    system.told("create u --size 1G --wait", "u .* yes")
+    soon("a use at the new node", lambda: system.ask("use u m6 /srv/u --wait", check=False)[0] == 0)
+    machine("mountpoint -q /srv/u")
+    system.told("stop u m6 /srv/u --wait")
+    system.told("delete u --wait")
+    for number in THREE:
+        system[number](f"mv {FILES}/set.json.before {FILES}/set.json")
+    read_anew(system, lambda said: "node:m6 " not in said)
+    machine.kill()
+    del system.machines[6]
+
+
+def read_anew(system, is_so):
+    """The orchestrators read their files anew, and once the list of nodes is so, the controllers."""
+    for number in system.of("orchestrator"):
+        system[number](f"systemctl reload tufayon-orchestrator@{SET}")
+    soon("another list", lambda: is_so(system.ask("nodes")[1]))
+    for number in system.of("controller"):
+        system[number](f"systemctl reload tufayon-controller@{SET}")
     reached(system)
 
 
@@ -395,7 +443,7 @@ def recover(system, used, dead):
         need(f"{machine.name}: the store is one file", "node.db-wal" not in machine(f"ls {STORES}/node")[1])
         system[1]("mkdir -p -m 700 /root/stores")
         carry(machine, f"{STORES}/node/node.db", system[1], f"/root/stores/{machine.name}.db")
-    _, said = system[1](f"cd /root\n{RECOVER}")
+    _, said = system[1](f"set -e; cd /root\n{RECOVER}")
     told = re.search(rf'{{"lost":\["m{dead}"\],"session":(\d+),"volumes":2,"wanted":\[\]}}', said)
     need("what was recovered", told, said)
     for machine in system.up():
