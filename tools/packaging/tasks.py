@@ -209,7 +209,7 @@ def use(system):
     need("a second node is refused", status == 1 and "HeldElsewhere" in said, said)
     system.told("list", r"v .* m4:/srv/v")
     system.told("get v", "m4:/srv/v")
-    status, said = system[1](f"{CLIENT}timeout 3 tufayonctl watch", check=False)
+    status, said = system[1](f"{CLIENT}timeout 3 tufayonctl watch --current", check=False)
     need("watch begins with what there is, and goes on", status == 124 and "m4:/srv/v" in said, said)
 
 
