@@ -69,7 +69,7 @@ def install_etcd(system):
 
 def unpack(machine, packages):
     """The same without packages: the tarball's programs run, and systemd has its units. It is an empty machine behind it."""
-    machine(f"set -e; cd {packages}\ntar -C / -xf tufayon-*.tar.xz\nsystemd-sysusers\nsystemd-tmpfiles --create\nsystemctl daemon-reload")
+    machine(f"set -e; cd {packages}\ntar -C / -xf tufayon-*.tar.xz\nsystemd-sysusers tufayon-service.conf\nsystemd-tmpfiles --create tufayon-service.conf\nsystemctl daemon-reload")
     machine(f"test -L /lib && test -d /var/lib/tufayon && getent passwd tufayon-controller && systemctl cat tufayon-node@{SET}")
     demonstrate(machine)
     machine.kill()
@@ -310,11 +310,11 @@ def add(system, packages):
     machine("mountpoint -q /srv/u")
     system.told("stop u m6 /srv/u --wait")
     system.told("delete u --wait")
+    machine.kill()
+    del system.machines[6]
     for number in THREE:
         system[number](f"mv {FILES}/set.json.before {FILES}/set.json")
     read_anew(system, lambda said: "node:m6 " not in said)
-    machine.kill()
-    del system.machines[6]
 
 
 def read_anew(system, is_so):
