@@ -444,8 +444,7 @@ def recover(system, used, dead):
         system[1]("mkdir -p -m 700 /root/stores")
         carry(machine, f"{STORES}/node/node.db", system[1], f"/root/stores/{machine.name}.db")
     _, said = system[1](f"set -e; cd /root\n{RECOVER}")
-    told = re.search(rf'{{"lost":\["m{dead}"\],"session":(\d+),"volumes":2,"wanted":\[\]}}', said)
-    need("what was recovered", told, said)
+    need("what was recovered", re.search(rf'{{"lost":\["m{dead}"\],"session":\d+,"volumes":2,"wanted":\[\]}}', said), said)
     for machine in system.up():
         carry(system[1], f"/root/stores/{machine.name}.db", machine, f"{STORES}/node/node.db")
     for number in system.of("orchestrator"):
@@ -456,11 +455,12 @@ def recover(system, used, dead):
     reached(system)
     system.told("list", rf"v .* m{used}:/srv/v", rf"u .* m{dead}")
     need("the volume in use is there", system[used]("mountpoint -q /srv/v && cat /srv/v/file")[1] == "kept\n")
+    session = lost(system, dead)
     system.told(f"stop u m{dead} /srv/u --wait")
     system.told("use u m2 /srv/u --wait", "m2:/srv/u")
     system.told("stop u m2 /srv/u --wait")
     system.told("delete u --wait")
-    join(system, dead, told.group(1))
+    join(system, dead, session)
 
 
 # ---- taking it away
