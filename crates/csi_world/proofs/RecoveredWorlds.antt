@@ -43,13 +43,13 @@ use Rattle.csi_orchestrator.specs.Public.Steps as steps
 use Rattle.csi_world.specs.Model.World.{NodeAt, World, node_state}
 use Rattle.csi_world.specs.Public.Recovered.{given_state, recovered}
 use Rattle.csi_world.specs.Public.Recovery.{is_given, given_of, raised_at, recovered_world}
-use Rattle.csi_world.proofs.WorldView.{node_view, over_at}
+use Rattle.csi_world.proofs.WorldView.{party_of, node_view, over_at}
 use Rattle.csi_world.proofs.GivenIds.{HasNow}
 use Rattle.csi_world.proofs.CallThings.{of-thing-at, plugin_thing_at}
 use Rattle.csi_world.proofs.Lifetimes.{latest, latest-is, not-over}
 use Rattle.csi_world.proofs.NamedCalls.{Named}
 use Rattle.csi_world.proofs.HeardReplies.{known-yes}
-use Rattle.csi_world.proofs.RepliesTold.{Truth, reply-parts}
+use Rattle.csi_world.proofs.RepliesTold.{Truth, kept-more, reply-parts}
 use Rattle.csi_world.proofs.StagedAttached.{staging, IsStanding, IsAttachedSo, stages-own}
 use Rattle.csi_world.proofs.CreatesFirst.{first-noted}
 use Rattle.csi_world.proofs.Forgotten.{told_by, closed-told}
@@ -125,7 +125,7 @@ module _ (r : Recovery) where
             let parts = reply-parts number c.number party c.party kind (kind_of c.call) reply (reply_to r c.call) from.2 in
             ap (λ k. has_id_by_rule k reply) parts.0 ∙ ap (has_id_by_rule (kind_of c.call)) parts.1 ∙ id-rule r c.name c.party c.call ((trail r).told c from.1))
             (among-joined (old r).frames (map (answer_of r) (issued r)) (reply_frame number party kind reply) among);
-        kept = λ k x is. among-append (old r).frames (map (answer_of r) (issued r)) _ ((right r).good.well.so_far.truth.kept k x (kept-old k x is));
+        kept = λ k x is. kept-more (old r).frames (map (answer_of r) (issued r)) (party_of k) x ((right r).good.well.so_far.truth.kept k x (kept-old k x is));
         numbers = (trail r).numbers;
         found = λ k call is. latest-is k (history r).items call is;
         order = λ call k among of. inr (spent-of r call k among of);
@@ -270,7 +270,7 @@ module _ (r : Recovery) where
       no_start : (number : Number) (status : Status) (id : Option ℕ) → Accepted number status id ≡ Started (session r) (nodes r) → ⊥
       no_start number status id e = cc
 
-  -- the plugins are in states that frames lead to
+  -- the plugins are in such states as they have to be
   reached : IsReached (next r)
   reached =
       record {

@@ -2,15 +2,17 @@
 use Rattle.std.specs.Prelude.{◌≡◌, ℕ, ◌<◌, List, [], filter_map, map, true, Option, Some, None, if◌then◌else◌}
 use Rattle.std.specs.List.{flat_map}
 use Rattle.std.specs.List.Sorted.{IsPermutation}
-use Rattle.csi_lists.specs.Model.Members.{EachTwo}
+use Rattle.csi_lists.specs.Model.Members.{EachTwo, IsAmong}
 use Rattle.csi_types.specs.declared.call.Kind.TheVariants.{CreateVolume}
 use Rattle.csi_types.specs.declared.holding.Holding.{Holding}
 use Rattle.csi_types.specs.Model.Capacity.{capacity_wanted}
 use Rattle.csi_types.specs.Model.Replies.{ok_reply_with}
 use Rattle.csi_fence.specs.Model.Fence.{Kept}
 use Rattle.csi_controller.specs.Model.State.{Volume, ControllerState}
-use Rattle.csi_orchestrator.specs.Model.Thing.{is_no}
+use Rattle.csi_orchestrator.specs.declared.thing.Thing.TheVariants.{Attached}
+use Rattle.csi_orchestrator.specs.Model.Thing.{Issued, is_no, touches}
 use Rattle.csi_orchestrator.specs.Model.History.{History}
+use Rattle.csi_orchestrator.specs.Model.Readings.{issued_since}
 use Rattle.csi_orchestrator.specs.Model.Shown.{NodeEntryShown, RowShown, OrchestratorParts, Shows}
 use Rattle.csi_orchestrator.specs.Public.Record.{RecordParts}
 use Rattle.csi_orchestrator.specs.Public.Restored.{AreRestorable}
@@ -65,16 +67,23 @@ pub record IsRebuilt (session next_id : ℕ) (rows : List RowShown) (state : Con
   pub volumes : IsPermutation (rebuilt_volumes rows) state.volumes
   pub rising : EachTwo (λ (a b : Volume). a.id < b.id) state.volumes
   pub holdings : state.holdings ≡ rebuilt_holdings rows
-  pub next_id : state.next_id ≡ next_id
-  pub session : state.session ≡ session
+  pub has_next : state.next_id ≡ next_id
+  pub in_session : state.session ≡ session
 
 -- the record of an orchestrator that shows these parts, once its open calls were given up
 abbrev pub record_of : OrchestratorParts → RecordParts
 record_of parts = record { nodes = parts.nodes; session = parts.last.session; rows = map closed parts.rows }
 
--- this is the record of an orchestrator with this history, and keeps the rules of such a record
+-- a call that attaches the volume of the name to the node, or detaches it, was sent since the name was last forgotten
+pub record WasAsked (history : History) (name node : List ℕ) : Type 0 where
+  pub call : Issued
+  pub among : IsAmong call (issued_since history name)
+  pub of_attachment : touches (Attached name node) call ≡ true
+
+-- this is the record of an orchestrator with this history: it keeps the rules of such a record, and each entry is there since a call that was sent
 pub record IsRecordOf (kept : RecordParts) (history : History) : Type 0 where
   pub parts : OrchestratorParts
   pub shows : Shows parts history
   pub is : kept ≡ record_of parts
   pub rules : AreRestorable kept.nodes kept.rows
+  pub asked : (row : RowShown) (entry : NodeEntryShown) → IsAmong row kept.rows → IsAmong entry row.node_entries → WasAsked history row.name entry.node

@@ -1,5 +1,6 @@
 -- By the plugins' laws.
 use Rattle.csi_world.proofs.RecoverySafety.{recovery-safe}
+use Rattle.csi_world.proofs.RebuiltRows.{regular}
 use Rattle.csi_world.proofs.laws.recovery_law.Goals as goal
 
 pub returns : goal.returns
