@@ -109,7 +109,7 @@ started-last history session last rises = after-all history (record { session = 
     later a less = grind (arith, nat_tests)
 
 -- a session starts
-starts-right : PluginLaws → (world : World) (session : ℕ) (nodes : List (List ℕ)) → IsRight world → (last_number world.history).session < session → IsRight (with_history (Started session nodes ∷ []) world)
+pub starts-right : PluginLaws → (world : World) (session : ℕ) (nodes : List (List ℕ)) → IsRight world → (last_number world.history).session < session → IsRight (with_history (Started session nodes ∷ []) world)
 starts-right laws world session nodes right later =
     noted-right laws world (Started session nodes) right
     (record { silent = refl; same = refl; stays = λ thing. refl; since = λ thing. refl; before = λ thing. refl; over = λ thing. refl; grows = omega (arith, later) }) tt

@@ -4,7 +4,7 @@ use Rattle.csi_world.proofs.Words.{refl, sym, ◌∙◌, ap, subst, inl, ⊎_eli
 use Rattle.csi_world.proofs.Words.{Kind, Party, Controller, Node, Body, Reply, CallBecomes, IsClosed, IsDelivered}
 use Rattle.csi_world.proofs.Words.{Frame, PluginThing, Exists, HasId, asked, IsAmong, kind_of, call_frame, reply_frame}
 use Rattle.csi_world.proofs.Words.{stale_reply, same_party, Volume, ControllerState, volume_with_id, Fenced}
-use Rattle.csi_world.proofs.Words.{answered_only, unanswered, ControllerSafetyLaw, NodeState, NodeSafetyLaw, Issued}
+use Rattle.csi_world.proofs.Words.{answered_only, unanswered, NodeState, NodeSafetyLaw, Issued}
 use Rattle.csi_world.proofs.Words.{issued_in, NodeAt, World, node_state, with_node, with_frame, answered_by_node}
 use Rattle.csi_world.proofs.Words.{answered_by_plugin}
 use Rattle.csi_world.proofs.Lemmas.{false≢true, ltb-true, ltb-false, none-some, same_Some, among-find}
@@ -37,8 +37,6 @@ use Rattle.csi_world.proofs.DeliveredCalls.{with_plugins, AreEffects, given-once
 -- the laws of the plugins
 pub record PluginLaws : Type 0 where
   pub controller : controllers.ControllerDeliveryLaw
-  pub names : controllers.ControllerNamesLaw
-  pub exclusive : ControllerSafetyLaw
   pub node : nodes.NodeDeliveryLaw
   pub publishing : NodeSafetyLaw
 

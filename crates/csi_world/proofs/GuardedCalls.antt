@@ -18,7 +18,7 @@ use Rattle.csi_world.proofs.KnownThings.{IsSoFar, IsDone, latest-told, none-stan
 use Rattle.csi_world.proofs.StagedAttached.{IsStanding, IsAttachedSo}
 
 -- the latest call that attached a volume tells how it is held
-attached-call : (name : List ℕ) (party : Party) (c : Call) (id : ℕ) (node : List ℕ) → is_plugin_thing (Attached id node) (plugin_thing_at name party c) ≡ true → is_doing c ≡ true
+pub attached-call : (name : List ℕ) (party : Party) (c : Call) (id : ℕ) (node : List ℕ) → is_plugin_thing (Attached id node) (plugin_thing_at name party c) ≡ true → is_doing c ≡ true
     → (held : Held) × (c ≡ calls.ControllerPublishVolume id node held.capability held.readonly)
 attached-call name party (calls.ControllerPublishVolume i there capability readonly) id node of doing =
     let parts = and_parts (id == i) (same_text node there) of in
@@ -49,11 +49,11 @@ held-none name node x other named = by x.party x.call other
     by party c other = refl
 
 -- how the calls of a name hold the volume at a node, by the newest of them that tells it
-abbrev held_among : List ℕ → List ℕ → List Issued → Option Held
+abbrev pub held_among : List ℕ → List ℕ → List Issued → Option Held
 held_among name node xs = newest (filter_map (λ (issued : Issued). held_by_call node issued.call) (filter (λ (issued : Issued). same_text issued.name name) xs))
 
 -- where the latest call of an attachment put the volume there, it tells how the volume is held
-held-latest : (name node : List ℕ) (id : ℕ) (call : Issued) (here : Held) (xs : List Issued) → call.call ≡ calls.ControllerPublishVolume id node here.capability here.readonly
+pub held-latest : (name node : List ℕ) (id : ℕ) (call : Issued) (here : Held) (xs : List Issued) → call.call ≡ calls.ControllerPublishVolume id node here.capability here.readonly
     → find (touches (things.Attached name node)) xs ≡ Some call → held_among name node xs ≡ Some here
 held-latest name node id call here [] publishes found = absurd (none-some call found)
 held-latest name node id call here (x ∷ xs) publishes found = by (touches (things.Attached name node) x) refl found (held-latest name node id call here xs publishes)

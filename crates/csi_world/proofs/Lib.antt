@@ -45,6 +45,8 @@ pub mod RecoveredThings
 pub mod RecoveredWorlds
 pub mod RaisedWorlds
 pub mod RebuiltRows
+pub mod RebuiltThings
+pub mod RebuiltWorlds
 pub mod RecoverySafety
 pub mod RunSteps
 pub mod CarriedFrames

@@ -35,7 +35,7 @@ use Rattle.csi_orchestrator.specs.declared.thing.Thing.TheVariants as things
 use Rattle.csi_orchestrator.specs.Model.Thing.{Issued, touches}
 use Rattle.csi_orchestrator.specs.Model.History.{Started, Accepted, History}
 use Rattle.csi_orchestrator.specs.Model.Readings as readings
-use Rattle.csi_orchestrator.specs.Model.Readings.{issued_in, known_by, known, last_number}
+use Rattle.csi_orchestrator.specs.Model.Readings.{issued_in, known_by, known, last_number, open_call}
 use Rattle.csi_orchestrator.specs.Model.WellFormed.{IsWellFormed}
 use Rattle.csi_orchestrator.specs.Model.Shown.{Shows}
 use Rattle.csi_orchestrator.specs.Public.Steps.{Opens}
@@ -58,7 +58,7 @@ use Rattle.csi_world.proofs.PluginsReached.{IsNodeOfFrames, IsReached}
 use Rattle.csi_world.proofs.Deliveries.{all-closed}
 use Rattle.csi_world.proofs.RightWorlds.{IsRight}
 use Rattle.csi_world.proofs.HeardNumbers.{sent-up}
-use Rattle.csi_world.proofs.MoreFrames.{with_frames, AreMore}
+use Rattle.csi_world.proofs.MoreFrames.{with_frames}
 use Rattle.csi_world.proofs.CallsTold.{Tells, id_for}
 use Rattle.csi_world.proofs.RaisedPlugins.{raised-controller, raised-node, node-begun}
 use Rattle.csi_world.proofs.RecoveredRows.{found-live, found-holding}
@@ -77,8 +77,10 @@ pub record IsMade (nodes : List (List ℕ)) (session : ℕ) (given : List (List 
   pub reached : steps.IsReached history
   pub form : IsWellFormed history
   pub shows : Shows (recovered nodes session old.controller (given_of given old)) history
+  pub begins : (last_number history).session ≡ session
+  pub closed : (name : List ℕ) → open_call history name ≡ None
   pub frames : List Frame
-  pub more : AreMore old.frames frames
+  pub more : (frame : Frame) → IsAmong frame old.frames → IsAmong frame frames
   pub right : IsRight (with_frames frames (recovered_world session given history old))
 
 module _ (r : Recovery) where
@@ -321,6 +323,8 @@ module _ (r : Recovery) where
         reached = Opens (recovered (nodes r) (session r) (controller r) (gs r)) (history r) (may r).rows (form r) (shows r);
         form = (form r);
         shows = (shows r);
+        begins = refl;
+        closed = λ name. refl;
         frames = (frames r);
         more = λ frame among. among-append (old r).frames (map (answer_of r) (issued r)) frame among;
         right = subst IsRight same next-right;
