@@ -1,5 +1,6 @@
 -- The two volumes change places.
-use Rattle.std.proofs.Common.{[], ◌∷◌, codes, refl, arith}
+use Rattle.std.proofs.Common.{[], ◌∷◌, refl, arith}
+use Rattle.std.specs.Prelude.{codes}
 use Rattle.std.proofs.lemmas.List.Sorted.{IsPermutation-append_comm}
 use Rattle.csi_world.specs.Private.WorkedRebuilt.{volume}
 use Rattle.csi_world.proofs.worked.rebuilt.Goals as goal
