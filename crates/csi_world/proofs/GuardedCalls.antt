@@ -145,7 +145,7 @@ module _ (history : History) (frames : List Frame) (view : PluginView) (given : 
       by party c guard = refl
 
   -- what is known to be attached is so by the id that its name has now
-  attached-now : (name node : List ℕ) (id : ℕ) → HasNow given name id → (done : IsDone history given (things.Attached name node)) → latest history.items (Attached id node) ≡ Some done.call
+  pub attached-now : (name node : List ℕ) (id : ℕ) → HasNow given name id → (done : IsDone history given (things.Attached name node)) → latest history.items (Attached id node) ≡ Some done.call
   attached-now name node id has done = by (attached-thing (things.Attached name node) done.plugin_thing name node refl done.one)
     where
       by : (j : ℕ) × (done.plugin_thing ≡ Attached j node) × HasName given name j → latest history.items (Attached id node) ≡ Some done.call

@@ -32,7 +32,7 @@ use Rattle.csi_fence.specs.Model.Fence.{is_over}
 use Rattle.csi_controller.specs.Model.State.{Volume, live_volume, is_held_at, holding_at}
 use Rattle.csi_controller.specs.Public.View.{live_named, held_in}
 use Rattle.csi_orchestrator.specs.declared.thing.Known.{Known}
-use Rattle.csi_orchestrator.specs.declared.thing.Known.TheVariants.{Yes, No}
+use Rattle.csi_orchestrator.specs.declared.thing.Known.TheVariants.{Yes, No, Maybe}
 use Rattle.csi_orchestrator.specs.declared.thing.Thing.TheVariants as things
 use Rattle.csi_orchestrator.specs.Model.Thing.{Issued, is_no, is_doing, touches}
 use Rattle.csi_orchestrator.specs.Model.History.{Held, Item, Accepted}
@@ -41,7 +41,7 @@ use Rattle.csi_orchestrator.specs.Model.Readings.{id_in, id_of, issued_in, is_su
 use Rattle.csi_orchestrator.specs.Model.Shown.{NodeEntryShown, RowShown, held_at, mark_in, node_entry_of}
 use Rattle.csi_orchestrator.specs.Public.Record.{RecordParts}
 use Rattle.csi_world.specs.Model.World.{World}
-use Rattle.csi_world.specs.Public.Rebuilt.{volume_with}
+use Rattle.csi_world.specs.Public.Rebuilt.{volume_with, WasAsked}
 use Rattle.csi_world.proofs.WorldView.{party_of, view_of}
 use Rattle.csi_world.proofs.GivenIds.{GivenId, HasNow, HasOld, HasName, live-named}
 use Rattle.csi_world.proofs.CallThings.{IsFor, IsAnsweredOk, Attachment, plugin_thing_at, is_plugin_thing, is_of, is_making, of-thing-at, of_thing}
@@ -52,8 +52,8 @@ use Rattle.csi_world.proofs.RepliesTold.{asked-doing}
 use Rattle.csi_world.proofs.CreatesFirst.{IsKnown, heard-known, known-heard}
 use Rattle.csi_world.proofs.NotLive.{exists-named}
 use Rattle.csi_world.proofs.Forgotten.{told_by, ended-detached}
-use Rattle.csi_world.proofs.KnownThings.{asked-undoing, exists-found, latest-by_name}
-use Rattle.csi_world.proofs.GuardedCalls.{attached-call, held-latest}
+use Rattle.csi_world.proofs.KnownThings.{asked-undoing, exists-found, latest-by_name, yes-done}
+use Rattle.csi_world.proofs.GuardedCalls.{attached-call, attached-now, held-latest}
 use Rattle.csi_world.proofs.HeardNumbers.{up-session}
 use Rattle.csi_world.proofs.MoreFrames.{IsDead}
 use Rattle.csi_world.proofs.RecoveredRows.{found-holding, text-self}
@@ -343,6 +343,7 @@ module _ (r : Rebuilding) where
     pub entry : NodeEntryShown
     pub among : IsAmong entry row.node_entries
     pub at_node : entry.node ≡ node
+    pub mark : known (history r) (things.Attached row.name node) ≡ entry.attached
     pub maybe : known (history r) (things.Attached row.name node) ≡ No → ⊥
 
   pub held-by : (id : ℕ) (node : List ℕ) (holding : Holding) → holding_at id node (controller r) ≡ Some holding → IsHeldBy id node
@@ -350,6 +351,9 @@ module _ (r : Rebuilding) where
       let passes = and_parts (holding.volume == id) (same_text holding.node node) (find-passes (is_held_at id node) (controller r).holdings holding found) in
       let of = holding-row r holding (among-find (is_held_at id node) (controller r).holdings holding found) in
       let at : (of.2.entry).node ≡ node = sym (ap (λ (h : Holding). h.node) of.2.is) ∙ (same_text-tells holding.node node).0 passes.1 in
+      let mark : known (history r) (things.Attached (of.0).name node) ≡ (of.2.entry).attached
+      = ap (λ n. known (history r) (things.Attached (of.0).name n)) (sym at) ∙ row-attached r of.0 (of.2.entry).node of.1
+          ∙ ap (mark_in (λ (e : NodeEntryShown). e.attached)) (named-entry r of.0 of.2.entry of.1 of.2.among) in
       record {
         row = of.0;
         there = of.1;
@@ -357,10 +361,8 @@ module _ (r : Rebuilding) where
         entry = of.2.entry;
         among = of.2.among;
         at_node = at;
-        maybe = λ gone.
-            maybe-not (of.2.entry).attached of.2.maybe
-            (sym (ap (mark_in (λ (e : NodeEntryShown). e.attached)) (named-entry r of.0 of.2.entry of.1 of.2.among)) ∙ sym (row-attached r of.0 (of.2.entry).node of.1)
-            ∙ ap (λ n. known (history r) (things.Attached (of.0).name n)) at ∙ gone);
+        mark = mark;
+        maybe = λ gone. maybe-not (of.2.entry).attached of.2.maybe (sym mark ∙ gone);
       }
 
   -- what is known to be attached so is held so
@@ -536,23 +538,39 @@ module _ (r : Rebuilding) where
   attached-sent : (id : ℕ) (node : List ℕ) → latest items (Attached id node) ≡ None → held_in (controller r) (Attached id node) ≡ None
   attached-sent id node none =
       ap (option_map (λ (h : Holding). AttachedAs h.capability h.readonly)) (none-where (holding_at id node (controller r)) (λ holding found.
-      let by = held-by id node holding found in
-      let name : List ℕ = (by.row).name in
-      let has : HasNow (given r) name id = row-now r by.row id by.there by.has_id in
-      let asked_for = r.may.of_orchestrator.asked by.row by.entry by.there by.among in
-      let of_name : Issued → Bool = λ issued. same_text issued.name name in
-      let kept = among-kept of_name (issued_in (lifetime name items)) asked_for.call asked_for.among in
-      let same : (asked_for.call).name ≡ name = (same_text-tells (asked_for.call).name name).0 kept.1 in
-      let since : IsAmong asked_for.call (calls_since (Exists name) items) = subst (λ (xs : List Item). IsAmong asked_for.call (issued_in xs)) (lifetime-is name items) kept.0 in
-      let own_now = (so_far r).named.own_now asked_for.call (subst (λ n. IsAmong asked_for.call (calls_since (Exists n) items)) (sym same) since) in
-      let touches_it : touches (things.Attached name node) asked_for.call ≡ true = ap (λ n. touches (things.Attached name n) asked_for.call) (sym by.at_node) ∙ asked_for.of_attachment in
-      let of = touches-then-of (given r) (things.Attached name node) (Attached id node) asked_for.call (so_far r).are_given (Attachment name node id has) own_now touches_it in
-      let all : calls_since (Attached id node) items ≡ issued_in items = sym (calls-same {has = HasNow (given r)} (things.Attached name node) (Attached id node) items (Attachment name node id has) (λ other e. clash other e)) ∙ calls-attached name node items in
-      let there : IsAmong asked_for.call (calls_since (Attached id node) items) = subst (IsAmong asked_for.call) (sym all) (since-sent (Exists name) items asked_for.call since) in
-      false≢true (sym (none_passes (is_of (Attached id node)) (calls_since (Attached id node) items) asked_for.call none there) ∙ of)))
+      let held = held-by id node holding found in by held (known (history r) (things.Attached (held.row).name node)) refl))
     where
-      clash : {name : List ℕ} (other : List ℕ) → things.Attached name node ≡ things.Exists other → ⊥
-      clash other e = cc
+      -- a call of it was sent since the volume's name was last forgotten
+      asked-for : (held : IsHeldBy id node) → WasAsked (history r) (held.row).name (held.entry).node → ⊥
+      asked-for held asked =
+          let name : List ℕ = (held.row).name in
+          let has : HasNow (given r) name id = row-now r held.row id held.there held.has_id in
+          let kept = among-kept (λ (issued : Issued). same_text issued.name name) (issued_in (lifetime name items)) asked.call asked.among in
+          let same : (asked.call).name ≡ name = (same_text-tells (asked.call).name name).0 kept.1 in
+          let since : IsAmong asked.call (calls_since (Exists name) items) = subst (λ (xs : List Item). IsAmong asked.call (issued_in xs)) (lifetime-is name items) kept.0 in
+          let own_now = (so_far r).named.own_now asked.call (subst (λ n. IsAmong asked.call (calls_since (Exists n) items)) (sym same) since) in
+          let touches_it : touches (things.Attached name node) asked.call ≡ true = ap (λ n. touches (things.Attached name n) asked.call) (sym held.at_node) ∙ asked.of_attachment in
+          let of = touches-then-of (given r) (things.Attached name node) (Attached id node) asked.call (so_far r).are_given (Attachment name node id has) own_now touches_it in
+          let all : calls_since (Attached id node) items ≡ issued_in items
+          = sym (calls-same {has = HasNow (given r)} (things.Attached name node) (Attached id node) items (Attachment name node id has) (λ other e. clash other e)) ∙ calls-attached name node items in
+          let there : IsAmong asked.call (calls_since (Attached id node) items) = subst (IsAmong asked.call) (sym all) (since-sent (Exists name) items asked.call since) in
+          false≢true (sym (none_passes (is_of (Attached id node)) (calls_since (Attached id node) items) asked.call none there) ∙ of)
+        where
+          clash : {name : List ℕ} (other : List ℕ) → things.Attached name node ≡ things.Exists other → ⊥
+          clash other e = cc
+
+      -- no volume is attached that was deleted before its name was forgotten
+      detached : (name : List ℕ) (i : ℕ) (at : List ℕ) → HasOld (given r) name i → (told_by (given r) (old r)).held (Attached i at) ≡ None
+      detached name i at had = ended-detached (old r) i at r.right.good.reached.controller.exclusive.attached_while_live (r.right.good.well.of_controller.ended name i had)
+
+      by : (held : IsHeldBy id node) (mark : Known) → known (history r) (things.Attached (held.row).name node) ≡ mark → ⊥
+      by held No e = held.maybe e
+      by held Yes e =
+          let done = yes-done (history r) (old r).frames (told_by (given r) (old r)) (given r) (so_far r) (things.Attached (held.row).name node) e in
+          none-some done.call
+          (sym none
+          ∙ attached-now (history r) (old r).frames (told_by (given r) (old r)) (given r) (so_far r) detached (held.row).name node id (row-now r held.row id held.there held.has_id) done)
+      by held Maybe e = asked-for held (r.may.of_orchestrator.asked held.row held.entry held.there held.among (sym held.mark ∙ e))
 
   -- so it is of both
   pub sent-so : (k : PluginThing) → party_of k ≡ Controller → latest items k ≡ None → (view_of next).held k ≡ None

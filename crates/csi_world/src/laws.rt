@@ -86,7 +86,7 @@ pub fn safety_law()
 /// made has a history, as each orchestrator has that was opened from a record, so that what contracts say of one is said of it. For a
 /// controller's store (`MayReplace`) the operator promises two: its next id isn't below the lost one's, which gave each smaller id perhaps; and
 /// the lost controller and its store never come back. Its session is later than the orchestrator's last, which next begins one that is no
-/// earlier; the record is that of its last parts, and has an entry only since a call of the attachment was sent. This profile's own.
+/// earlier; and the record is that of its last parts (`IsRecordOf`). This profile's own.
 pub fn recovery_law()
     ensures { RecoveryLaw }
 {

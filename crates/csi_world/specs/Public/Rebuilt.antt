@@ -9,6 +9,7 @@ use Rattle.csi_types.specs.Model.Capacity.{capacity_wanted}
 use Rattle.csi_types.specs.Model.Replies.{ok_reply_with}
 use Rattle.csi_fence.specs.Model.Fence.{Kept}
 use Rattle.csi_controller.specs.Model.State.{Volume, ControllerState}
+use Rattle.csi_orchestrator.specs.declared.thing.Known.TheVariants.{Maybe}
 use Rattle.csi_orchestrator.specs.declared.thing.Thing.TheVariants.{Attached}
 use Rattle.csi_orchestrator.specs.Model.Thing.{Issued, is_no, touches}
 use Rattle.csi_orchestrator.specs.Model.History.{History}
@@ -80,10 +81,11 @@ pub record WasAsked (history : History) (name node : List ℕ) : Type 0 where
   pub among : IsAmong call (issued_since history name)
   pub of_attachment : touches (Attached name node) call ≡ true
 
--- this is the record of an orchestrator with this history: it keeps the rules of such a record, and each entry is there since a call that was sent
+-- this is the record of an orchestrator with this history: it keeps the rules of such a record, and of an attachment of which it doesn't know whether it
+-- is there a call was sent since the volume's name was last forgotten
 pub record IsRecordOf (kept : RecordParts) (history : History) : Type 0 where
   pub parts : OrchestratorParts
   pub shows : Shows parts history
   pub is : kept ≡ record_of parts
   pub rules : AreRestorable kept.nodes kept.rows
-  pub asked : (row : RowShown) (entry : NodeEntryShown) → IsAmong row kept.rows → IsAmong entry row.node_entries → WasAsked history row.name entry.node
+  pub asked : (row : RowShown) (entry : NodeEntryShown) → IsAmong row kept.rows → IsAmong entry row.node_entries → entry.attached ≡ Maybe → WasAsked history row.name entry.node
