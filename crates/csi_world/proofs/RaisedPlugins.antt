@@ -1,6 +1,6 @@
 -- Plugins whose sessions were raised: a call that does nothing but begin the session would do the same.
 use Rattle.csi_world.proofs.Words.{◌≡◌, ℕ, ◌<◌, ◌≤◌, List, [], ◌∷◌, ◌++◌, cond, None, option_map, find, refl, sym, ◌∙◌}
-use Rattle.csi_world.proofs.Words.{ap, subst, ◌==◌, arith, Controller, Node, Number, Unimplemented, kind_of, Config}
+use Rattle.csi_world.proofs.Words.{ap, ◌==◌, arith, Controller, Node, Number, Unimplemented, kind_of, Config}
 use Rattle.csi_world.proofs.Words.{Frame, plain_reply, stale_reply, call_frame, Kept, Fenced, answered_only}
 use Rattle.csi_world.proofs.Words.{answered_in, in_session, fenced_call, unanswered, Volume, ControllerState}
 use Rattle.csi_world.proofs.Words.{volume_with_id, NodeState, joined_node, after_frames}

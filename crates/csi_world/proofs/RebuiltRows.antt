@@ -1,7 +1,7 @@
 -- A controller that is made of what its orchestrator keeps: its volumes and holdings are those of the record's rows, and all is so of its state that is
 -- kept of every controller's.
-use Rattle.std.proofs.Common.{◌≡◌, ◌⊎◌, ℕ, ◌<◌, ◌≤◌, List, [], ◌∷◌, filter_map, find, Bool, true, false, cond, Option, Some, None, option_map, is_some, ◌==◌, ◌&&◌, ◌||◌, refl, sym, ◌∙◌, ap, subst, inl, inr, arith}
-use Rattle.std.specs.List.{AllByRecursion, cons_option}
+use Rattle.std.proofs.Common.{◌≡◌, ◌⊎◌, ℕ, ◌<◌, List, [], ◌∷◌, filter_map, find, Bool, true, false, cond, Option, Some, None, option_map, is_some, ◌==◌, ◌&&◌, ◌||◌, refl, sym, ◌∙◌, ap, subst, inl, inr, arith}
+use Rattle.std.specs.List.{cons_option}
 use Rattle.std.specs.Prelude.{option_and_then}
 use Rattle.std.proofs.lemmas.Bool.{and_from, or_left, or_parts, or_right, eq-eqb, false≢true}
 use Rattle.std.proofs.lemmas.Option.{none-some, same_Some}
@@ -11,13 +11,11 @@ use Rattle.csi_lists.proofs.Options.{some-from_map}
 use Rattle.csi_lists.proofs.Pairs.{two-flat}
 use Rattle.csi_lists.proofs.Searches.{find-of_map, find-one, find-passes}
 use Rattle.csi_types.specs.declared.holding.Holding.{Holding}
-use Rattle.csi_types.specs.Model.Holding.{AreApart}
 use Rattle.csi_types.specs.Model.Same.{same_text}
 use Rattle.csi_types.specs.Model.Sharing.{is_single_node, is_single_writer, writes}
 use Rattle.csi_types.proofs.Equality.{same_text-tells}
 use Rattle.csi_controller.specs.Model.Safe.{AreExclusive}
-use Rattle.csi_controller.specs.Model.State.{Volume, ControllerState, volume_named, live_volume}
-use Rattle.csi_controller.specs.Public.Safe.{IsExclusiveState}
+use Rattle.csi_controller.specs.Model.State.{Volume, ControllerState, live_volume}
 use Rattle.csi_controller.proofs.OrderlyStates.{IsOrderly}
 use Rattle.csi_controller.proofs.RememberedStates.{AreRecent}
 use Rattle.csi_controller.proofs.Sound.{found-rising}
@@ -27,7 +25,7 @@ use Rattle.csi_orchestrator.specs.declared.thing.Thing.{Thing}
 use Rattle.csi_orchestrator.specs.declared.thing.Thing.TheVariants as things
 use Rattle.csi_orchestrator.specs.Model.Thing.{is_no, name_in}
 use Rattle.csi_orchestrator.specs.Model.History.{History}
-use Rattle.csi_orchestrator.specs.Model.Readings.{id_of, held, known, last_number}
+use Rattle.csi_orchestrator.specs.Model.Readings.{id_of, held, known}
 use Rattle.csi_orchestrator.specs.Model.Shown.{NodeEntryShown, RowShown, OrchestratorParts, Shows, row_of, node_entry_of, mark_in, mark_of, held_on_node}
 use Rattle.csi_orchestrator.specs.Public.Record.{RecordParts}
 use Rattle.csi_orchestrator.specs.Public.Restored.{IsRestorable, AreRestorable}
@@ -242,8 +240,7 @@ module _ (r : Rebuilding) where
       by : (o : Option RowShown) → row_of parts.rows (name_in thing) ≡ o → (row : RowShown) × IsAmong row rows × (row.name ≡ name_in thing)
       by None e = absurd (maybe (sym (shows.same_marks thing) ∙ ap (mark_in (mark_of thing)) e))
       by (Some part) e =
-          let found : row_of rows (name_in thing) ≡ Some (closed part) = row-by (name_in thing) ∙ ap (option_map closed) e in
-          (
+          let found : row_of rows (name_in thing) ≡ Some (closed part) = row-by (name_in thing) ∙ ap (option_map closed) e in (
             closed part,
             among-find (λ (row : RowShown). same_text row.name (name_in thing)) rows (closed part) found,
             (same_text-tells part.name (name_in thing)).0 (find-passes (λ (row : RowShown). same_text row.name (name_in thing)) rows (closed part) found),

@@ -1,8 +1,8 @@
 -- What a controller has that is made of what its orchestrator keeps, and what the orchestrator's history tells of it: what was done and heard is so, and
 -- of what is there a call was sent.
-use Rattle.std.proofs.Common.{◌≡◌, ◌⊎◌, ℕ, ◌<◌, ◌≤◌, List, [], ◌∷◌, filter, find, Bool, true, false, cond, not, Option, Some, None, option_map, is_some, IsTrue, ◌==◌, ◌&&◌, ◌||◌, refl, sym, ◌∙◌, ap, subst, inl, inr, ⊎_elim, arith}
+use Rattle.std.proofs.Common.{◌≡◌, ◌⊎◌, ℕ, ◌<◌, ◌≤◌, List, [], filter, find, Bool, true, false, cond, not, Option, Some, None, option_map, is_some, ◌==◌, ◌&&◌, ◌||◌, refl, sym, ◌∙◌, ap, subst, inl, inr, ⊎_elim, arith}
 use Rattle.std.specs.List.{list_any}
-use Rattle.std.proofs.lemmas.Bool.{and_from, and_parts, eq-eqb, eqb-true, false≢true, or_cases, or_left, or_right, true≢false}
+use Rattle.std.proofs.lemmas.Bool.{and_from, and_parts, eq-eqb, eqb-true, false≢true, or_cases, true≢false}
 use Rattle.std.proofs.lemmas.Option.{none-some, same_Some}
 use Rattle.csi_lists.specs.Model.Members.{IsAmong}
 use Rattle.csi_lists.proofs.Members.{among-find, among-kept, in_filter, none_passes}
@@ -26,9 +26,8 @@ use Rattle.csi_types.specs.Model.Frame.{Frame}
 use Rattle.csi_types.specs.Model.Replies.{reply_frame}
 use Rattle.csi_types.specs.Model.Reply.{is_ok_status}
 use Rattle.csi_types.specs.Model.Same.{same_number, same_text}
-use Rattle.csi_types.specs.Public.PluginThing.{PluginThing, Exists, Attached, Staged, Published, ThingForm, HasId, AttachedAs, asked}
+use Rattle.csi_types.specs.Public.PluginThing.{PluginThing, Exists, Attached, Staged, Published, HasId, AttachedAs, asked}
 use Rattle.csi_types.proofs.Equality.{same_number-tells, same_text-tells}
-use Rattle.csi_fence.specs.Model.Fence.{is_over}
 use Rattle.csi_controller.specs.Model.State.{Volume, live_volume, is_held_at, holding_at}
 use Rattle.csi_controller.specs.Public.View.{live_named, held_in}
 use Rattle.csi_orchestrator.specs.declared.thing.Known.{Known}
@@ -57,7 +56,7 @@ use Rattle.csi_world.proofs.GuardedCalls.{attached-call, attached-now, held-late
 use Rattle.csi_world.proofs.HeardNumbers.{up-session}
 use Rattle.csi_world.proofs.MoreFrames.{IsDead}
 use Rattle.csi_world.proofs.RecoveredRows.{found-holding, text-self}
-use Rattle.csi_world.proofs.RebuiltRows.{Rebuilding, IsVolumeOf, IsHoldingOf, holding_so, old, controller, history, given, so_far, rows, parts, shows, orderly, regular, row-id, row-exists, row-attached, row-held, row-there, row-now, same-row_id, named-entry, volume-row, row-volume, holding-row, row-holding}
+use Rattle.csi_world.proofs.RebuiltRows.{Rebuilding, holding_so, old, controller, history, given, so_far, rows, parts, shows, orderly, regular, row-id, row-exists, row-attached, row-held, row-there, row-now, named-entry, volume-row, row-volume, holding-row, row-holding}
 
 -- ---- which replies are left out
 
@@ -353,7 +352,7 @@ module _ (r : Rebuilding) where
       let at : (of.2.entry).node ≡ node = sym (ap (λ (h : Holding). h.node) of.2.is) ∙ (same_text-tells holding.node node).0 passes.1 in
       let mark : known (history r) (things.Attached (of.0).name node) ≡ (of.2.entry).attached
       = ap (λ n. known (history r) (things.Attached (of.0).name n)) (sym at) ∙ row-attached r of.0 (of.2.entry).node of.1
-          ∙ ap (mark_in (λ (e : NodeEntryShown). e.attached)) (named-entry r of.0 of.2.entry of.1 of.2.among) in
+      ∙ ap (mark_in (λ (e : NodeEntryShown). e.attached)) (named-entry r of.0 of.2.entry of.1 of.2.among) in
       record {
         row = of.0;
         there = of.1;

@@ -57,7 +57,7 @@ use Rattle.csi_world.proofs.Deliveries.{PluginLaws}
 use Rattle.csi_world.proofs.RightWorlds.{IsRight}
 use Rattle.csi_world.proofs.HeardNumbers.{IsUpTo, up-session}
 use Rattle.csi_world.proofs.WorldSafety.{right-safe}
-use Rattle.csi_world.proofs.CallsTold.{IsVolume, Tells, id_for, FitsSo, IsTrail, trail-grows}
+use Rattle.csi_world.proofs.CallsTold.{IsVolume, Tells, id_for, IsTrail}
 use Rattle.csi_world.proofs.RecoveredRows.{two-same, text-self, found-live, told-rows}
 
 -- what a recovery starts from

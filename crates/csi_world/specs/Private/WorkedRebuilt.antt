@@ -1,14 +1,12 @@
 -- A worked example of a controller that is made of what its orchestrator keeps: v, volume 2, is attached to n1, and may be to n2; w is to be made,
 -- and has no id yet; x, volume 1, is being deleted; and y, volume 3, was deleted.
-use Rattle.std.specs.Prelude.{◌≡◌, ℕ, List, [], ◌∷◌, Option, Some, None, codes, true, false}
+use Rattle.std.specs.Prelude.{ℕ, List, [], ◌∷◌, Option, Some, None, codes, true, false}
 use Rattle.csi_types.specs.declared.capability.Access.TheVariants.{Block}
 use Rattle.csi_types.specs.declared.capability.Capability.{Capability}
-use Rattle.csi_types.specs.declared.holding.Holding.{Holding}
 use Rattle.csi_types.specs.declared.mode.Mode.TheVariants.{MultiNodeMultiWriter}
 use Rattle.csi_controller.specs.Model.State.{Volume, ControllerState}
 use Rattle.csi_orchestrator.specs.declared.row.Goal.{Goal}
 use Rattle.csi_orchestrator.specs.declared.row.Goal.TheVariants.{Create, Stop, Delete}
-use Rattle.csi_orchestrator.specs.declared.row.TargetEntry.{TargetEntry}
 use Rattle.csi_orchestrator.specs.declared.thing.Known.{Known}
 use Rattle.csi_orchestrator.specs.declared.thing.Known.TheVariants.{Yes, No, Maybe}
 use Rattle.csi_orchestrator.specs.Model.Shown.{NodeEntryShown, RowShown}
