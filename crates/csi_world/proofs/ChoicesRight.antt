@@ -21,9 +21,8 @@ use Rattle.csi_world.proofs.RepliesTold.{unanswered, before_call, truth-sent}
 use Rattle.csi_world.proofs.StagedAttached.{stands-sent}
 use Rattle.csi_world.proofs.KnownThings.{IsSoFar}
 use Rattle.csi_world.proofs.GuardedCalls.{own-guarded, leaves-guarded, stages-guarded}
-use Rattle.csi_world.proofs.PluginSafety.{exclusive}
 use Rattle.csi_world.proofs.RecordedRight.{IsWell}
-use Rattle.csi_world.proofs.PluginsReached.{found-at, knows-nothing, empty-reached, still-reached, answered-history}
+use Rattle.csi_world.proofs.PluginsReached.{regular-named, found-at, knows-nothing, empty-reached, still-reached, answered-history}
 use Rattle.csi_world.proofs.Deliveries.{PluginLaws, all-closed, frame-got}
 use Rattle.csi_world.proofs.RightWorlds.{IsLast, IsRight, after-all, noted-right}
 use Rattle.csi_world.proofs.NamesForgotten.{forgets-right}
@@ -50,7 +49,7 @@ module _ (laws : PluginLaws) (world : World) (right : IsRight world) where
 
   -- no volume is attached that was deleted before its name was forgotten
   detached : (name : List ℕ) (id : ℕ) (node : List ℕ) → HasOld given name id → (told_by given world).held (Attached id node) ≡ None
-  detached name id node had = ended-detached world id node (exclusive laws.exclusive world right.good.reached).attached_while_live (well.of_controller.ended name id had)
+  detached name id node had = ended-detached world id node right.good.reached.controller.exclusive.attached_while_live (well.of_controller.ended name id had)
 
   -- a call is sent
   sent-right : (call : Issued) → MaySend world call → IsRight (chosen world (Sends call))
@@ -110,7 +109,7 @@ started-last history session last rises = after-all history (record { session = 
     later a less = grind (arith, nat_tests)
 
 -- a session starts
-starts-right : PluginLaws → (world : World) (session : ℕ) (nodes : List (List ℕ)) → IsRight world → (last_number world.history).session < session → IsRight (with_history (Started session nodes ∷ []) world)
+pub starts-right : PluginLaws → (world : World) (session : ℕ) (nodes : List (List ℕ)) → IsRight world → (last_number world.history).session < session → IsRight (with_history (Started session nodes ∷ []) world)
 starts-right laws world session nodes right later =
     noted-right laws world (Started session nodes) right
     (record { silent = refl; same = refl; stays = λ thing. refl; since = λ thing. refl; before = λ thing. refl; over = λ thing. refl; grows = omega (arith, later) }) tt
@@ -213,7 +212,7 @@ empty-right laws config =
             undone = λ name call found. absurd (none-some call found);
           };
           of_controller = record {
-            names = laws.names.named [];
+            names = regular-named (empty_world config).controller (empty-reached config).controller;
             below = λ name id has. absurd (⊎_elim (λ here. here) (λ here. here) has);
             listed = λ id volume is. absurd (none-some volume is);
             ended = λ name id had. absurd had;

@@ -235,7 +235,10 @@ module _ (world : World) (controller : ControllerState) (nodes : List NodeAt) (c
         }
       where
         sent : Rests plugin_thing (delivery_of call kind reply) (view_of world) (view_of next) → reply.status ≡ Ok → IsAmong (answer_to call kind reply) world.frames
-        sent rests ok = subst (λ p. IsAmong (reply_frame call.number p kind reply) world.frames) of_party (well.so_far.truth.kept plugin_thing (kept_of (delivery_of call kind reply)) (rests.was_kept ok))
+        sent rests ok =
+            subst (λ p. IsAmong (reply_frame call.number p kind reply) world.frames) of_party
+            (⊎_elim (λ there. there) (λ none. let counted = well.so_far.timed.counted call among in absurd (omega (arith, none, counted)))
+            (well.so_far.truth.kept plugin_thing (kept_of (delivery_of call kind reply)) (rests.was_kept ok)))
 
     -- it doesn't have the call's volume, which was forgotten; or the call was sent before the orchestrator forgot the name
     abbrev IsMissing : Type 0

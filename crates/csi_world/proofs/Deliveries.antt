@@ -4,7 +4,7 @@ use Rattle.csi_world.proofs.Words.{refl, sym, ◌∙◌, ap, subst, inl, ⊎_eli
 use Rattle.csi_world.proofs.Words.{Kind, Party, Controller, Node, Body, Reply, CallBecomes, IsClosed, IsDelivered}
 use Rattle.csi_world.proofs.Words.{Frame, PluginThing, Exists, HasId, asked, IsAmong, kind_of, call_frame, reply_frame}
 use Rattle.csi_world.proofs.Words.{stale_reply, same_party, Volume, ControllerState, volume_with_id, Fenced}
-use Rattle.csi_world.proofs.Words.{answered_only, unanswered, ControllerSafetyLaw, NodeState, NodeSafetyLaw, Issued}
+use Rattle.csi_world.proofs.Words.{answered_only, unanswered, NodeState, NodeSafetyLaw, Issued}
 use Rattle.csi_world.proofs.Words.{issued_in, NodeAt, World, node_state, with_node, with_frame, answered_by_node}
 use Rattle.csi_world.proofs.Words.{answered_by_plugin}
 use Rattle.csi_world.proofs.Lemmas.{false≢true, ltb-true, ltb-false, none-some, same_Some, among-find}
@@ -12,6 +12,8 @@ use Rattle.csi_types.specs.declared.call.Call.TheVariants as calls
 use Rattle.csi_types.specs.declared.frame.Body.TheVariants as bodies
 use Rattle.csi_controller.specs.Model.Fenced as controller
 use Rattle.csi_controller.specs.Public.View as controllers
+use Rattle.csi_controller.proofs.DeliveryLaw.{delivered as delivered-to}
+use Rattle.csi_controller.proofs.NamesLaw.{keeps_names}
 use Rattle.csi_node.specs.Model.Fenced as node
 use Rattle.csi_node.specs.Public.View as nodes
 use Rattle.csi_world.proofs.WorldView.{party_of, node_view, over_at, plugin_view, view_of, ChangesOnly, closed-all}
@@ -26,9 +28,8 @@ use Rattle.csi_world.proofs.StagedAttached.{stands-answered}
 use Rattle.csi_world.proofs.NotLive.{ended-answered, old-answered}
 use Rattle.csi_world.proofs.Forgotten.{told_by, closed-told}
 use Rattle.csi_world.proofs.KnownThings.{IsSoFar}
-use Rattle.csi_world.proofs.PluginSafety.{exclusive}
 use Rattle.csi_world.proofs.RecordedRight.{IsWell}
-use Rattle.csi_world.proofs.PluginsReached.{IsReached, found-at, controller-next, node-next, node-of-frames, node_state-same, node_state-other, with_node-same}
+use Rattle.csi_world.proofs.PluginsReached.{IsReached, regular-named, found-at, controller-next, node-next, node-of-frames, node_state-same, node_state-other, with_node-same}
 use Rattle.csi_world.proofs.Floors.{HasFloor, under, floor-controller, floor-node, floor-with_state}
 use Rattle.csi_world.proofs.JudgedCalls.{low-call}
 use Rattle.csi_world.proofs.DeliveredCalls.{with_plugins, AreEffects, given-once, effects, given-live}
@@ -36,8 +37,6 @@ use Rattle.csi_world.proofs.DeliveredCalls.{with_plugins, AreEffects, given-once
 -- the laws of the plugins
 pub record PluginLaws : Type 0 where
   pub controller : controllers.ControllerDeliveryLaw
-  pub names : controllers.ControllerNamesLaw
-  pub exclusive : ControllerSafetyLaw
   pub node : nodes.NodeDeliveryLaw
   pub publishing : NodeSafetyLaw
 
@@ -162,7 +161,7 @@ module _ (laws : PluginLaws) (world : World) (controller : ControllerState) (nod
 
       made : AreEffects world controller nodes call given more plugin_thing kind reply
       made =
-          effects world controller nodes call given more well keeps following.1 (exclusive laws.exclusive world good.reached).attached_while_live (exclusive laws.exclusive next reached).attached_while_live
+          effects world controller nodes call given more well keeps following.1 good.reached.controller.exclusive.attached_while_live reached.controller.exclusive.attached_while_live
           among plugin_thing its.by_name its.of_party (subst (λ p. ChangesOnly p world next) (sym its.of_party) only) kind reply thing by
           (subst (λ p. CallBecomes thing (delivery_of call kind reply) (plugin_view world p) (plugin_view next p)) (sym its.of_party) delivered.becomes)
 
@@ -181,13 +180,13 @@ call-got laws world name number Controller c good above among =
     let call : Issued = record { name = name; number = number; party = Controller; call = c } in
     let frame : Frame = call_frame number Controller c in
     let after : Fenced ControllerState = controller.fenced world.config world.controller frame in
-    let came = good.reached.controller in
+    let is = good.reached.controller in
     let of_kind = (of_thing (HasName good.given) name Controller c (own world.history.items world.frames good.given good.well.so_far.named call among)).of_kind in
-    let delivered = subst (λ (s : ControllerState). controllers.IsDeliveredTo world.config s number c) (sym came.1) (laws.controller.delivered world.config came.0 number c of_kind) in
-    let next = controller-next world.config world.controller frame came in
+    let delivered : controllers.IsDeliveredTo world.config world.controller number c = delivered-to world.config world.controller number c is.orderly is.exclusive is.recent of_kind in
+    let next = controller-next world.config world.controller frame is in
     let floor : HasFloor (good.well.so_far).floor (with_plugins world after.state world.nodes) = record { controller = floor-controller world.config (good.well.so_far).floor world.controller number Controller (bodies.Call c) above good.floor.controller; nodes = good.floor.nodes; last = good.floor.last } in
     good-delivered laws world after.state world.nodes call good floor among (record { controller = next; nodes = good.reached.nodes; alike = good.reached.alike })
-    (subst (λ (s : ControllerState). controllers.KeepsNames s (controller.fenced world.config s frame).state) (sym came.1) (laws.names.keeps_names world.config came.0 frame)) (subst controllers.AreNamed (sym next.1) (laws.names.named next.0)) (others after.state) delivered.thing delivered.is_thing after.reply delivered.is_delivered
+    (keeps_names world.config world.controller frame is.orderly) (regular-named after.state next) (others after.state) delivered.thing delivered.is_thing after.reply delivered.is_delivered
   where
     others : (s : ControllerState) → ChangesOnly Controller world (record world { controller = s })
     others s Controller e = absurd (false≢true (sym e))

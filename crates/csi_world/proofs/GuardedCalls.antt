@@ -18,7 +18,7 @@ use Rattle.csi_world.proofs.KnownThings.{IsSoFar, IsDone, latest-told, none-stan
 use Rattle.csi_world.proofs.StagedAttached.{IsStanding, IsAttachedSo}
 
 -- the latest call that attached a volume tells how it is held
-attached-call : (name : List ℕ) (party : Party) (c : Call) (id : ℕ) (node : List ℕ) → is_plugin_thing (Attached id node) (plugin_thing_at name party c) ≡ true → is_doing c ≡ true
+pub attached-call : (name : List ℕ) (party : Party) (c : Call) (id : ℕ) (node : List ℕ) → is_plugin_thing (Attached id node) (plugin_thing_at name party c) ≡ true → is_doing c ≡ true
     → (held : Held) × (c ≡ calls.ControllerPublishVolume id node held.capability held.readonly)
 attached-call name party (calls.ControllerPublishVolume i there capability readonly) id node of doing =
     let parts = and_parts (id == i) (same_text node there) of in
@@ -49,11 +49,11 @@ held-none name node x other named = by x.party x.call other
     by party c other = refl
 
 -- how the calls of a name hold the volume at a node, by the newest of them that tells it
-abbrev held_among : List ℕ → List ℕ → List Issued → Option Held
+abbrev pub held_among : List ℕ → List ℕ → List Issued → Option Held
 held_among name node xs = newest (filter_map (λ (issued : Issued). held_by_call node issued.call) (filter (λ (issued : Issued). same_text issued.name name) xs))
 
 -- where the latest call of an attachment put the volume there, it tells how the volume is held
-held-latest : (name node : List ℕ) (id : ℕ) (call : Issued) (here : Held) (xs : List Issued) → call.call ≡ calls.ControllerPublishVolume id node here.capability here.readonly
+pub held-latest : (name node : List ℕ) (id : ℕ) (call : Issued) (here : Held) (xs : List Issued) → call.call ≡ calls.ControllerPublishVolume id node here.capability here.readonly
     → find (touches (things.Attached name node)) xs ≡ Some call → held_among name node xs ≡ Some here
 held-latest name node id call here [] publishes found = absurd (none-some call found)
 held-latest name node id call here (x ∷ xs) publishes found = by (touches (things.Attached name node) x) refl found (held-latest name node id call here xs publishes)
@@ -145,7 +145,7 @@ module _ (history : History) (frames : List Frame) (view : PluginView) (given : 
       by party c guard = refl
 
   -- what is known to be attached is so by the id that its name has now
-  attached-now : (name node : List ℕ) (id : ℕ) → HasNow given name id → (done : IsDone history given (things.Attached name node)) → latest history.items (Attached id node) ≡ Some done.call
+  pub attached-now : (name node : List ℕ) (id : ℕ) → HasNow given name id → (done : IsDone history given (things.Attached name node)) → latest history.items (Attached id node) ≡ Some done.call
   attached-now name node id has done = by (attached-thing (things.Attached name node) done.plugin_thing name node refl done.one)
     where
       by : (j : ℕ) × (done.plugin_thing ≡ Attached j node) × HasName given name j → latest history.items (Attached id node) ≡ Some done.call

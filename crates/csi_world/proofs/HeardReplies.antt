@@ -129,6 +129,12 @@ known-no history thing h = by (find (touches thing) (calls_for thing history.ite
         at true false p q h = (call, record { found = e; success = p; is_so = q })
         at false d p q h = absurd (false≢true (ap is_no h))
 
+-- where the latest call undoes it, and its success was heard, it is known not to be so
+pub latest-gone : (history : History) (thing : Thing) (call : Issued) → IsLatest history.items thing call false → known history thing ≡ No
+latest-gone history thing call latest =
+    let passes : touches thing call ≡ true = find-passes (touches thing) (calls_for thing history.items) call latest.found in
+    ap (known_by history.items thing) latest.found ∙ rw (latest.success, passes, latest.is_so) refl
+
 -- where the latest call does it, and its success was heard, it is known to be so
 pub latest-known : (history : History) (thing : Thing) (call : Issued) → IsLatest history.items thing call true → known history thing ≡ Yes
 latest-known history thing call latest =

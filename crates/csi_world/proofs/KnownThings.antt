@@ -36,7 +36,7 @@ pub record IsSoFar (history : History) (frames : List Frame) (view : PluginView)
   pub undone : EndedUndone history.items
 
 -- a call that undoes asks for nothing
-asked-undoing : (c : Call) (reply : Reply) → is_doing c ≡ false → asked c reply ≡ None
+pub asked-undoing : (c : Call) (reply : Reply) → is_doing c ≡ false → asked c reply ≡ None
 asked-undoing (calls.DeleteVolume id) reply h = refl
 asked-undoing (calls.ControllerUnpublishVolume id node) reply h = refl
 asked-undoing (calls.NodeUnstageVolume id) reply h = refl
@@ -204,7 +204,7 @@ module _ (history : History) (frames : List Frame) (view : PluginView) (given : 
   -- ---- whether a volume is there
 
   -- the calls of it, by the name
-  exists-found : (name : List ℕ) → find (touches (things.Exists name)) (calls_for (things.Exists name) history.items) ≡ find (is_of (Exists name)) (calls_since (Exists name) history.items ++ calls_before (Exists name) history.items)
+  pub exists-found : (name : List ℕ) → find (touches (things.Exists name)) (calls_for (things.Exists name) history.items) ≡ find (is_of (Exists name)) (calls_since (Exists name) history.items ++ calls_before (Exists name) history.items)
   exists-found name =
       ap (find (touches (things.Exists name))) (calls-exists name history.items)
       ∙ find-same_among (touches (things.Exists name)) (is_of (Exists name)) (issued_in history.items) (λ x among. exists-same given name x (each-own x among))

@@ -25,7 +25,7 @@ pub use Rattle.csi_lists.proofs.Tests.{none-among, then-all, then-any}
 pub use Rattle.csi_types.proofs.Equality.{same_capability-tells, same_kind-tells, same_number-tells, same_party-tells}
 pub use Rattle.csi_types.proofs.Equality.{same_plugin_thing-tells, same_text-tells}
 pub use Rattle.csi_fence.proofs.Judged.{Judgement, was_fresh, was_judged, was_over, was_repeated, was_stale}
-pub use Rattle.csi_controller.proofs.OrderlyStates.{IsOrderly, came_orderly, is_with_id}
+pub use Rattle.csi_controller.proofs.OrderlyStates.{IsOrderly, is_with_id}
 pub use Rattle.csi_controller.proofs.Sound.{rising-one}
 pub use Rattle.csi_node.proofs.CarriedOut.{Carried, has_room, kept_of, no_room, was_carried}
 pub use Rattle.csi_node.proofs.LastCalls.{changed-rows, changed-session, keep-each, keep-session, kept_in-id}

@@ -23,6 +23,7 @@ pub mod NotLive
 pub mod Forgotten
 pub mod GuardedCalls
 pub mod RecordedRight
+pub mod RecentStates
 pub mod PluginsReached
 pub mod JudgedCalls
 pub mod Floors
@@ -43,6 +44,9 @@ pub mod RecoveredPlugins
 pub mod RecoveredThings
 pub mod RecoveredWorlds
 pub mod RaisedWorlds
+pub mod RebuiltRows
+pub mod RebuiltThings
+pub mod RebuiltWorlds
 pub mod RecoverySafety
 pub mod RunSteps
 pub mod CarriedFrames

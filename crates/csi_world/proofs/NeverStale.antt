@@ -13,7 +13,7 @@ use Rattle.csi_world.proofs.Words.{Joins, Loses, Configures, MayChoose, MayChoos
 use Rattle.csi_world.proofs.Words.{call_frame, stale_reply}
 use Rattle.csi_world.proofs.Lemmas.{and_parts, false≢true, true≢false, none-some, same_Some, same_text-tells}
 use Rattle.csi_world.proofs.Lemmas.{same_number-tells, among-either, among-filter, among-map, find-passes, IsOrderly}
-use Rattle.csi_world.proofs.Lemmas.{came_orderly, open-sent, unless-some}
+use Rattle.csi_world.proofs.Lemmas.{open-sent, unless-some}
 use Rattle.csi_types.specs.declared.frame.Body.TheVariants as bodies
 use Rattle.csi_controller.specs.Model.Fenced as controllers
 use Rattle.csi_node.specs.Model.Fenced as nodes
@@ -86,7 +86,7 @@ module _ (world : World) (right : IsRight world) (heard : HasHeard world) (fence
   owned call among = own world.history.items world.frames given right.good.well.so_far.named call among
 
   orderly : IsOrderly world.controller
-  orderly = subst IsOrderly (sym right.good.reached.controller.1) (came_orderly right.good.reached.controller.0)
+  orderly = right.good.reached.controller.orderly
 
   -- an answer that no open call gets is one more frame
   more : (number : Number) (reply : Option Frame) (controller : ControllerState) (ns : List NodeAt) → ControllerKeeps issued controller → ((at : NodeAt) → IsAmong at ns → NodeKeeps issued at.state)

@@ -2,7 +2,7 @@
 -- call through, or gives what is kept.
 use Rattle.csi_world.proofs.Words.{◌≡◌, ◌⊎◌, ℕ, ◌≤◌, List, [], ◌∷◌, Bool, true, false, cond, Option, Some, None}
 use Rattle.csi_world.proofs.Words.{option_map, is_some, refl, sym, ◌∙◌, ap, subst, inl, inr, ⊎_elim, ◌==◌, Number, Call}
-use Rattle.csi_world.proofs.Words.{Party, Controller, Node, Body, Reply, kind_of, Config, Frame, IsBefore, reply_frame}
+use Rattle.csi_world.proofs.Words.{Party, Controller, Node, Body, kind_of, Config, Frame, IsBefore, reply_frame}
 use Rattle.csi_world.proofs.Words.{same_text, same_number, same_party, IsAmong, EachTwo, Kept, is_spent, is_over}
 use Rattle.csi_world.proofs.Words.{begins, Fenced, Machine, in_session, answered_only, judged, fenced_call, answered_in}
 use Rattle.csi_world.proofs.Words.{unanswered, fenced_parts, Volume, ControllerState, is_row_for, row_for}

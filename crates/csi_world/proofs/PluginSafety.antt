@@ -1,13 +1,9 @@
--- What the plugins keep by themselves, in every world of which they are in states that frames lead to.
-use Rattle.csi_world.proofs.Words.{◌≡◌, ℕ, true, Some, find, ◌==◌, sym, subst, Capability, IsAmong, IsExclusiveState}
-use Rattle.csi_world.proofs.Words.{ControllerSafetyLaw, IsPublishedRight, NodeSafetyLaw, NodeState, StagedVolume}
+-- What the nodes keep by themselves, in every world of which they are in states that frames lead to.
+use Rattle.csi_world.proofs.Words.{◌≡◌, ℕ, true, Some, find, ◌==◌, sym, subst, Capability, IsAmong}
+use Rattle.csi_world.proofs.Words.{IsPublishedRight, NodeSafetyLaw, NodeState, StagedVolume}
 use Rattle.csi_world.proofs.Words.{staged_of, World, IsPublishedWhereStaged}
 use Rattle.csi_world.proofs.Lemmas.{eqb-true, each_of, among-find, some-from_map, find-passes}
 use Rattle.csi_world.proofs.PluginsReached.{IsReached, IsNodeOfFrames}
-
--- any two holdings of one volume are apart, and what is attached wasn't deleted
-pub exclusive : ControllerSafetyLaw → (world : World) → IsReached world → IsExclusiveState world.controller
-exclusive law world reached = let of = reached.controller in subst IsExclusiveState (sym of.1) (law of.0)
 
 -- the capability in which a volume is staged stands in the list
 pub staged_there : (state : NodeState) (id : ℕ) (capability : Capability) → staged_of id state ≡ Some capability → IsAmong {X = StagedVolume} (record { volume = id; capability = capability }) state.staged

@@ -1,22 +1,31 @@
--- The plugins of a world are in states that frames lead to, and nodes of one id are alike.
+-- All is so of the controller's state of a world that each frame and each session keeps, its nodes are in states that frames lead to, and nodes of one
+-- id are alike.
 use Rattle.csi_world.proofs.Words.{◌≡◌, ◌⊎◌, ℕ, List, [], ◌∷◌, ◌++◌, map, Bool, true, false, cond, not, Option, Some}
-use Rattle.csi_world.proofs.Words.{None, option_map, find, refl, sym, ◌∙◌, ap, inl, inr, AllByRecursion, Party}
+use Rattle.csi_world.proofs.Words.{None, option_map, find, refl, sym, ◌∙◌, ap, subst, inl, inr, AllByRecursion, Party}
+use Rattle.csi_world.proofs.Words.{◌<◌, ◌==◌, ◌&&◌, IsExclusiveState, Volume}
 use Rattle.csi_world.proofs.Words.{Controller, Node, Config, Frame, IsAmong, same_text, ControllerState}
-use Rattle.csi_world.proofs.Words.{empty_controller, NodeState, joined_node, after_frames, History, NodeAt, World}
+use Rattle.csi_world.proofs.Words.{NodeState, joined_node, after_frames, History, NodeAt, World}
 use Rattle.csi_world.proofs.Words.{new_node, node_id, empty_world, node_state, with_state, with_node, with_new_node}
 use Rattle.csi_world.proofs.Words.{without_node, with_frame, answered_by_node, answered_by, answered_by_plugin}
 use Rattle.csi_world.proofs.Lemmas.{false≢true, none-some, same_Some, each_of, among-either, among-find, among-kept}
 use Rattle.csi_world.proofs.Lemmas.{among-map, some-found, each-append_one, each-filter, none-from_map, some-from_map}
 use Rattle.csi_world.proofs.Lemmas.{find-filter, find-filter_not, find-map, find-passes, map-same, same_text-tells}
-use Rattle.csi_world.proofs.Lemmas.{find-behind}
+use Rattle.csi_world.proofs.Lemmas.{find-behind, and_parts, eqb-true, lt-ltb, IsOrderly}
 use Rattle.csi_controller.specs.Model.Fenced as controller
-use Rattle.csi_controller.specs.Public.Fenced.{ConfiguredFrame, after_configured}
+use Rattle.csi_controller.specs.Public.View as controllers
+use Rattle.csi_controller.proofs.OrderlyStates.{named_by_id, with_id_by_name, is_named, live_with_id, begun_orderly, orderly_kept}
+use Rattle.csi_controller.proofs.RememberedStates.{AreRecent, begun_recent}
+use Rattle.csi_controller.proofs.SafeStates.{begun_keeps, exclusive_kept, empty_exclusive}
+use Rattle.csi_fence.proofs.FramesKeep.{frame_keeps}
 use Rattle.csi_node.specs.Model.Fenced as node
 use Rattle.csi_world.proofs.Lifetimes.{find-in_first}
+use Rattle.csi_world.proofs.RecentStates.{recent-kept}
 
--- a controller's state to which frames lead, each under the configuration of its time
-abbrev pub IsOfFrames : ControllerState → Type 0
-IsOfFrames state = (came : List ConfiguredFrame) × (state ≡ after_configured empty_controller came)
+-- what is so of a controller's state from the first one on, whatever frames come, and whichever sessions begin
+pub record IsRegular (state : ControllerState) : Type 0 where
+  pub orderly : IsOrderly state
+  pub exclusive : IsExclusiveState state
+  pub recent : AreRecent state
 
 -- a node's state is one to which frames lead, whichever session it joined with
 abbrev pub IsNodeOfFrames : NodeAt → Type 0
@@ -24,25 +33,40 @@ IsNodeOfFrames at = (session : ℕ) × (frames : List Frame) × (at.state ≡ af
 
 -- the plugins are in such states, and each node is as the one that is found by its id
 pub record IsReached (world : World) : Type 0 where
-  pub controller : IsOfFrames world.controller
+  pub controller : IsRegular world.controller
   pub nodes : AllByRecursion IsNodeOfFrames world.nodes
   pub alike : (at : NodeAt) → IsAmong at world.nodes → node_state at.id world ≡ Some at.state
 
--- one frame more
-controller-more : (state : ControllerState) (came : List ConfiguredFrame) (one : ConfiguredFrame) → after_configured state (came ++ one ∷ []) ≡ (controller.fenced one.config (after_configured state came) one.frame).state
-controller-more state [] one = refl
-controller-more state (f ∷ fs) one = controller-more (controller.fenced f.config state f.frame).state fs one
-
--- the same of a node
+-- one frame more, at a node
 pub node-more : (id : List ℕ) (state : NodeState) (frames : List Frame) (frame : Frame) → after_frames id state (frames ++ frame ∷ []) ≡ (node.fenced id (after_frames id state frames) frame).state
 node-more id state [] frame = refl
 node-more id state (f ∷ fs) frame = node-more id (node.fenced id state f).state fs frame
 
--- from a state to which frames lead, one more frame leads to another
-pub controller-next : (config : Config) (state : ControllerState) (frame : Frame) → IsOfFrames state → IsOfFrames (controller.fenced config state frame).state
-controller-next config state frame of =
-    let one : ConfiguredFrame = record { config = config; frame = frame } in
-    (of.0 ++ one ∷ [], ap (λ (s : ControllerState). (controller.fenced config s frame).state) of.1 ∙ sym (controller-more empty_controller of.0 one))
+-- so it is after each frame
+pub controller-next : (config : Config) (state : ControllerState) (frame : Frame) → IsRegular state → IsRegular (controller.fenced config state frame).state
+controller-next config state frame is =
+    record {
+      orderly = frame_keeps (controller.controller_with config) IsOrderly (orderly_kept config) state frame is.orderly;
+      exclusive = frame_keeps (controller.controller_with config) IsExclusiveState (exclusive_kept config) state frame is.exclusive;
+      recent = frame_keeps (controller.controller_with config) AreRecent (recent-kept config) state frame is.recent;
+    }
+
+-- and once a later session has begun
+pub controller-begun : (session : ℕ) (state : ControllerState) → state.session < session → IsRegular state → IsRegular (controller.begun session state)
+controller-begun session state later is =
+    record { orderly = begun_orderly session state is.orderly; exclusive = begun_keeps session state is.exclusive; recent = begun_recent session state (lt-ltb state.session session later) is.recent }
+
+-- names and ids belong together there
+pub regular-named : (state : ControllerState) → IsRegular state → controllers.AreNamed state
+regular-named state is = record {
+  by_id = λ name volume found. named_by_id state name volume is.orderly found;
+  by_name = λ id volume found. with_id_by_name state id volume is.orderly found;
+  live = λ name volume found. is_named state name volume is.orderly (among-find (λ (v : Volume). same_text v.name name && v.is_live) state.volumes volume found)
+      (and_parts (same_text volume.name name) volume.is_live (find-passes (λ (v : Volume). same_text v.name name && v.is_live) state.volumes volume found)).0;
+  live_id = λ id volume found. live_with_id state id volume is.orderly found;
+  given = λ id volume found. subst (λ n. n < state.next_id) (eqb-true volume.id id (find-passes (λ (v : Volume). v.id == id) state.volumes volume found))
+      (is.orderly volume (among-find (λ (v : Volume). v.id == id) state.volumes volume found)).given;
+}
 
 -- the node that is found
 pub found-at : (id : List ℕ) (world : World) (state : NodeState) → node_state id world ≡ Some state → (at : NodeAt) × IsAmong at world.nodes × (at.id ≡ id) × (at.state ≡ state)
@@ -151,10 +175,10 @@ new_alike ids at among =
     let first = some-found p (map (new_node 0) ids) at among ((same_text-tells at.id at.id).1 refl) in
     ap (option_map (λ (n : NodeAt). n.state)) first.1 ∙ ap Some (knows-nothing ids first.0 (among-find p (map (new_node 0) ids) first.0 first.1) ∙ sym (knows-nothing ids at among))
 
--- the plugins of the empty world are in such states
+-- so it is in the empty world
 pub empty-reached : (config : Config) → IsReached (empty_world config)
 empty-reached config =
-    record { controller = ([], refl); nodes = new_nodes (map node_id config.nodes); alike = λ at among. new_alike (map node_id config.nodes) at among }
+    record { controller = record { orderly = λ v among. absurd among; exclusive = empty_exclusive; recent = λ v among. absurd among }; nodes = new_nodes (map node_id config.nodes); alike = λ at among. new_alike (map node_id config.nodes) at among }
 
 -- what an orchestrator does changes no plugin, nor does a configuration
 pub still-reached : (world : World) (config : Config) (frames : List Frame) (history : History) → IsReached world → IsReached (record world { config = config; frames = frames; history = history })

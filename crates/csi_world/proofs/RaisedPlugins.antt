@@ -1,6 +1,6 @@
--- Plugins whose sessions were raised are in states that frames lead to: a call that does nothing but begin the session would do the same.
+-- Plugins whose sessions were raised: a call that does nothing but begin the session would do the same.
 use Rattle.csi_world.proofs.Words.{◌≡◌, ℕ, ◌<◌, ◌≤◌, List, [], ◌∷◌, ◌++◌, cond, None, option_map, find, refl, sym, ◌∙◌}
-use Rattle.csi_world.proofs.Words.{ap, subst, ◌==◌, arith, Controller, Node, Number, Unimplemented, kind_of, Config}
+use Rattle.csi_world.proofs.Words.{ap, ◌==◌, arith, Controller, Node, Number, Unimplemented, kind_of, Config}
 use Rattle.csi_world.proofs.Words.{Frame, plain_reply, stale_reply, call_frame, Kept, Fenced, answered_only}
 use Rattle.csi_world.proofs.Words.{answered_in, in_session, fenced_call, unanswered, Volume, ControllerState}
 use Rattle.csi_world.proofs.Words.{volume_with_id, NodeState, joined_node, after_frames}
@@ -12,7 +12,7 @@ use Rattle.csi_controller.specs.Model.Fenced as controller
 use Rattle.csi_controller.specs.Public.Raised as controller_raised
 use Rattle.csi_node.specs.Model.Fenced as node
 use Rattle.csi_node.specs.Public.Raised as node_raised
-use Rattle.csi_world.proofs.PluginsReached.{IsOfFrames, controller-next, node-more}
+use Rattle.csi_world.proofs.PluginsReached.{node-more}
 
 -- the number of the call that begins it
 abbrev pub number_of : ℕ → Number
@@ -60,10 +60,6 @@ controller-same config session state named later = same
         ∙ ap (λ (vs : List Volume). record (controller.begun session state) { volumes = vs })
         (map-same (controller.kept_in (calls.NodeUnstageVolume state.next_id) kept) (controller.begun session state).volumes
         (λ v among. ap (λ b. cond b (let u : Volume = record v { kept = kept } in u) v) (none_passes (λ (u : Volume). u.id == state.next_id) (controller.begun session state).volumes v none among)))
-
--- so a controller's state that has begun a session is one to which frames lead
-pub controller-begun : (config : Config) (session : ℕ) (state : ControllerState) → controllers.AreNamed state → state.session < session → IsOfFrames state → IsOfFrames (controller.begun session state)
-controller-begun config session state named later of = subst IsOfFrames (controller-same config session state named later) (controller-next config state (controller_frame session state) of)
 
 -- ---- a node
 

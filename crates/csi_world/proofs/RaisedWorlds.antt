@@ -5,14 +5,14 @@ use Rattle.csi_world.proofs.Words.{Party, Controller, Node, Number, same_text, P
 use Rattle.csi_world.proofs.Words.{Published, Kept, PluginView, Volume, ControllerState, NodeState, issued_in, NodeAt}
 use Rattle.csi_world.proofs.Words.{World, node_state, with_state, with_node}
 use Rattle.csi_world.proofs.Lemmas.{lt-ltb, ltb-true, or_cases, or_left, or_right, none-some, among-find, among-kept}
-use Rattle.csi_world.proofs.Lemmas.{same_text-tells, IsOrderly, came_orderly, AreCurrent, all_current}
+use Rattle.csi_world.proofs.Lemmas.{same_text-tells, IsOrderly, AreCurrent, all_current}
 use Rattle.csi_fence.proofs.Begun.{HasBegun}
 use Rattle.csi_controller.specs.Model.Fenced as controllers
 use Rattle.csi_controller.specs.Public.View as controller_views
 use Rattle.csi_controller.specs.Public.View.{AreNamed, KeepsNames}
 use Rattle.csi_controller.proofs.BegunThings as controller_things
 use Rattle.csi_controller.proofs.Forgotten.{live_volume-begun}
-use Rattle.csi_controller.proofs.RememberedStates.{AreRecent, came_recent}
+use Rattle.csi_controller.proofs.NamesLaw.{keeps_names}
 use Rattle.csi_node.specs.Model.Fenced as nodes
 use Rattle.csi_node.specs.Public.View as node_views
 use Rattle.csi_node.proofs.DeliveryLaw as node_things
@@ -26,12 +26,12 @@ use Rattle.csi_world.proofs.RepliesTold.{AreEnding, truth-ended}
 use Rattle.csi_world.proofs.StagedAttached.{stands-ended}
 use Rattle.csi_world.proofs.KnownThings.{IsSoFar}
 use Rattle.csi_world.proofs.RecordedRight.{IsWell}
-use Rattle.csi_world.proofs.PluginsReached.{IsReached, found-at, node-of-frames, node-next, node_state-same, node_state-other, with_node-same}
+use Rattle.csi_world.proofs.PluginsReached.{IsReached, controller-begun, regular-named, found-at, node-of-frames, node-next, node_state-same, node_state-other, with_node-same}
 use Rattle.csi_world.proofs.Floors.{HasFloor, floor-with_state}
 use Rattle.csi_world.proofs.DeliveredCalls.{with_plugins}
 use Rattle.csi_world.proofs.Deliveries.{PluginLaws, all-closed, names-stay}
 use Rattle.csi_world.proofs.RightWorlds.{IsRight}
-use Rattle.csi_world.proofs.RaisedPlugins.{number_of, controller_frame, controller-same, controller-begun, node_frame, node-same}
+use Rattle.csi_world.proofs.RaisedPlugins.{number_of, controller_frame, controller-same, node_frame, node-same}
 
 -- all is there as it was, no fewer numbers are spent, and what is kept was kept
 pub record KeepsView (old new : PluginView) : Type 0 where
@@ -111,17 +111,14 @@ module _ (laws : PluginLaws) (world : World) (right : IsRight world) where
   controller-raised : (session : ℕ) → IsRaised session world.controller.session → IsRight (with_plugins world (controllers.begun session world.controller) world.nodes)
   controller-raised session later =
       kept-right (controllers.begun session world.controller) world.nodes
-      (record { controller = controller-begun world.config session world.controller named later right.good.reached.controller; nodes = right.good.reached.nodes; alike = right.good.reached.alike })
+      (record { controller = controller-begun session world.controller later right.good.reached.controller; nodes = right.good.reached.nodes; alike = right.good.reached.alike })
       (record { controller = up (right.good.floor).controller; nodes = (right.good.floor).nodes; last = (right.good.floor).last }) of keeps view
     where
       named : AreNamed world.controller
-      named = subst AreNamed (sym right.good.reached.controller.1) (laws.names.named right.good.reached.controller.0)
+      named = regular-named world.controller right.good.reached.controller
 
       orderly : IsOrderly world.controller
-      orderly = subst IsOrderly (sym right.good.reached.controller.1) (came_orderly right.good.reached.controller.0)
-
-      recent : AreRecent world.controller
-      recent = subst AreRecent (sym right.good.reached.controller.1) (came_recent right.good.reached.controller.0)
+      orderly = right.good.reached.controller.orderly
 
       up : {floor : ℕ} → floor ≤ world.controller.session → floor ≤ session
       up {floor} above = omega (arith, above, later)
@@ -129,7 +126,7 @@ module _ (laws : PluginLaws) (world : World) (right : IsRight world) where
       of : AreOf (controllers.begun session world.controller) right.good.given
       of =
           record {
-            names = let now = controller-begun world.config session world.controller named later right.good.reached.controller in subst AreNamed (sym now.1) (laws.names.named now.0);
+            names = regular-named (controllers.begun session world.controller) (controller-begun session world.controller later right.good.reached.controller);
             below = right.good.well.of_controller.below;
             listed = λ id volume is.
                 let there = (among-kept (λ (v : Volume). v.is_live) world.controller.volumes volume (among-find (λ (v : Volume). v.id == id) (filter (λ (v : Volume). v.is_live) world.controller.volumes) volume is)).0 in
@@ -140,11 +137,10 @@ module _ (laws : PluginLaws) (world : World) (right : IsRight world) where
       keeps : KeepsNames world.controller (controllers.begun session world.controller)
       keeps =
           subst (KeepsNames world.controller) (controller-same world.config session world.controller named later)
-          (subst (λ (s : ControllerState). KeepsNames s (controllers.fenced world.config s (controller_frame session world.controller)).state) (sym right.good.reached.controller.1)
-          (laws.names.keeps_names world.config right.good.reached.controller.0 (controller_frame session world.controller)))
+          (keeps_names world.config world.controller (controller_frame session world.controller) orderly)
 
       begun : HasBegun (number_of session) (controller_views.view_of world.controller) (controller_views.view_of (controllers.begun session world.controller))
-      begun = controller_things.has_begun world.controller (number_of session) orderly recent (lt-ltb world.controller.session session later)
+      begun = controller_things.has_begun world.controller (number_of session) orderly right.good.reached.controller.recent (lt-ltb world.controller.session session later)
 
       view : KeepsView (view_of world) (view_of (with_plugins world (controllers.begun session world.controller) world.nodes))
       view = record { held = held; spent = spent; kept = kept }

@@ -29,9 +29,9 @@ use Rattle.csi_controller.specs.Model.State.{Volume, ControllerState, volume_nam
 use Rattle.csi_controller.specs.Model.Fenced as controllers
 use Rattle.csi_controller.specs.Public.Safe.{IsExclusiveState}
 use Rattle.csi_controller.specs.Public.State.{volume_with_id}
-use Rattle.csi_controller.specs.Public.View.{AreNamed, live_named}
+use Rattle.csi_controller.specs.Public.View.{live_named}
 use Rattle.csi_controller.proofs.Forgotten.{live_named-begun}
-use Rattle.csi_controller.proofs.OrderlyStates.{IsOrderly, came_orderly}
+use Rattle.csi_controller.proofs.OrderlyStates.{IsOrderly}
 use Rattle.csi_node.specs.Model.State.{NodeState, PublishedVolume, staged_of, published_at}
 use Rattle.csi_node.specs.Model.Fenced as node_fence
 use Rattle.csi_node.specs.Public.View as node_views
@@ -52,14 +52,12 @@ use Rattle.csi_world.proofs.CallThings.{of-thing-at, IsOwnNow, plugin_thing_at, 
 use Rattle.csi_world.proofs.Lifetimes.{is-over}
 use Rattle.csi_world.proofs.RepliesTold.{reply-parts}
 use Rattle.csi_world.proofs.Forgotten.{told_by}
-use Rattle.csi_world.proofs.PluginSafety.{exclusive}
-use Rattle.csi_world.proofs.PluginsReached.{IsOfFrames}
+use Rattle.csi_world.proofs.PluginsReached.{IsRegular, controller-begun, regular-named}
 use Rattle.csi_world.proofs.Deliveries.{PluginLaws}
 use Rattle.csi_world.proofs.RightWorlds.{IsRight}
 use Rattle.csi_world.proofs.HeardNumbers.{IsUpTo, up-session}
 use Rattle.csi_world.proofs.WorldSafety.{right-safe}
-use Rattle.csi_world.proofs.CallsTold.{IsVolume, Tells, id_for, FitsSo, IsTrail, trail-grows}
-use Rattle.csi_world.proofs.RaisedPlugins.{controller-begun}
+use Rattle.csi_world.proofs.CallsTold.{IsVolume, Tells, id_for, IsTrail}
 use Rattle.csi_world.proofs.RecoveredRows.{two-same, text-self, found-live, told-rows}
 
 -- what a recovery starts from
@@ -128,11 +126,11 @@ module _ (r : Recovery) where
 
   -- each volume has its name and its id alone
   pub orderly : IsOrderly controller
-  orderly = subst IsOrderly (sym right.good.reached.controller.1) (came_orderly right.good.reached.controller.0)
+  orderly = right.good.reached.controller.orderly
 
   -- what the controller keeps by itself
   pub plugin : IsExclusiveState controller
-  plugin = exclusive laws.exclusive old right.good.reached
+  plugin = right.good.reached.controller.exclusive
 
   -- the world before it is safe
   pub safe : Safe old
@@ -294,16 +292,15 @@ module _ (r : Recovery) where
 
   -- ---- the controller
 
-  -- the controller is in a state that frames lead to
-  pub came : IsOfFrames (controllers.begun session controller)
-  came =
-      controller-begun old.config session controller (subst AreNamed (sym right.good.reached.controller.1) (laws.names.named right.good.reached.controller.0)) may.after_controller right.good.reached.controller
+  -- the controller's state is as it was in this
+  pub came : IsRegular (controllers.begun session controller)
+  came = controller-begun session controller may.after_controller right.good.reached.controller
 
   -- whose ids these are
   pub of-controller : AreOf (controllers.begun session controller) ids
   of-controller =
       record {
-        names = subst AreNamed (sym came.1) (laws.names.named came.0);
+        names = regular-named (controllers.begun session controller) came;
         below = λ name id has. let v = has-volume name id has in subst (λ n. n < controller.next_id) v.same_id (orderly v.volume (among-volumes v.volume v.there)).given;
         listed = λ id volume is. inl (in-map id_of_volume live volume (among-find (λ (u : Volume). u.id == id) live volume is));
         ended = λ name id had. absurd (never-old name id had);

@@ -35,7 +35,7 @@ use Rattle.csi_orchestrator.specs.declared.thing.Thing.TheVariants as things
 use Rattle.csi_orchestrator.specs.Model.Thing.{Issued, touches}
 use Rattle.csi_orchestrator.specs.Model.History.{Started, Accepted, History}
 use Rattle.csi_orchestrator.specs.Model.Readings as readings
-use Rattle.csi_orchestrator.specs.Model.Readings.{issued_in, known_by, known, last_number}
+use Rattle.csi_orchestrator.specs.Model.Readings.{issued_in, known_by, known, last_number, open_call}
 use Rattle.csi_orchestrator.specs.Model.WellFormed.{IsWellFormed}
 use Rattle.csi_orchestrator.specs.Model.Shown.{Shows}
 use Rattle.csi_orchestrator.specs.Public.Steps.{Opens}
@@ -43,13 +43,13 @@ use Rattle.csi_orchestrator.specs.Public.Steps as steps
 use Rattle.csi_world.specs.Model.World.{NodeAt, World, node_state}
 use Rattle.csi_world.specs.Public.Recovered.{given_state, recovered}
 use Rattle.csi_world.specs.Public.Recovery.{is_given, given_of, raised_at, recovered_world}
-use Rattle.csi_world.proofs.WorldView.{node_view, over_at}
+use Rattle.csi_world.proofs.WorldView.{party_of, node_view, over_at}
 use Rattle.csi_world.proofs.GivenIds.{HasNow}
 use Rattle.csi_world.proofs.CallThings.{of-thing-at, plugin_thing_at}
 use Rattle.csi_world.proofs.Lifetimes.{latest, latest-is, not-over}
 use Rattle.csi_world.proofs.NamedCalls.{Named}
 use Rattle.csi_world.proofs.HeardReplies.{known-yes}
-use Rattle.csi_world.proofs.RepliesTold.{Truth, reply-parts}
+use Rattle.csi_world.proofs.RepliesTold.{Truth, kept-more, reply-parts}
 use Rattle.csi_world.proofs.StagedAttached.{staging, IsStanding, IsAttachedSo, stages-own}
 use Rattle.csi_world.proofs.CreatesFirst.{first-noted}
 use Rattle.csi_world.proofs.Forgotten.{told_by, closed-told}
@@ -58,7 +58,7 @@ use Rattle.csi_world.proofs.PluginsReached.{IsNodeOfFrames, IsReached}
 use Rattle.csi_world.proofs.Deliveries.{all-closed}
 use Rattle.csi_world.proofs.RightWorlds.{IsRight}
 use Rattle.csi_world.proofs.HeardNumbers.{sent-up}
-use Rattle.csi_world.proofs.MoreFrames.{with_frames, AreMore}
+use Rattle.csi_world.proofs.MoreFrames.{with_frames}
 use Rattle.csi_world.proofs.CallsTold.{Tells, id_for}
 use Rattle.csi_world.proofs.RaisedPlugins.{raised-controller, raised-node, node-begun}
 use Rattle.csi_world.proofs.RecoveredRows.{found-live, found-holding}
@@ -77,8 +77,10 @@ pub record IsMade (nodes : List (List ℕ)) (session : ℕ) (given : List (List 
   pub reached : steps.IsReached history
   pub form : IsWellFormed history
   pub shows : Shows (recovered nodes session old.controller (given_of given old)) history
+  pub begins : (last_number history).session ≡ session
+  pub closed : (name : List ℕ) → open_call history name ≡ None
   pub frames : List Frame
-  pub more : AreMore old.frames frames
+  pub more : (frame : Frame) → IsAmong frame old.frames → IsAmong frame frames
   pub right : IsRight (with_frames frames (recovered_world session given history old))
 
 module _ (r : Recovery) where
@@ -125,7 +127,7 @@ module _ (r : Recovery) where
             let parts = reply-parts number c.number party c.party kind (kind_of c.call) reply (reply_to r c.call) from.2 in
             ap (λ k. has_id_by_rule k reply) parts.0 ∙ ap (has_id_by_rule (kind_of c.call)) parts.1 ∙ id-rule r c.name c.party c.call ((trail r).told c from.1))
             (among-joined (old r).frames (map (answer_of r) (issued r)) (reply_frame number party kind reply) among);
-        kept = λ k x is. among-append (old r).frames (map (answer_of r) (issued r)) _ ((right r).good.well.so_far.truth.kept k x (kept-old k x is));
+        kept = λ k x is. kept-more (old r).frames (map (answer_of r) (issued r)) (party_of k) x ((right r).good.well.so_far.truth.kept k x (kept-old k x is));
         numbers = (trail r).numbers;
         found = λ k call is. latest-is k (history r).items call is;
         order = λ call k among of. inr (spent-of r call k among of);
@@ -270,7 +272,7 @@ module _ (r : Recovery) where
       no_start : (number : Number) (status : Status) (id : Option ℕ) → Accepted number status id ≡ Started (session r) (nodes r) → ⊥
       no_start number status id e = cc
 
-  -- the plugins are in states that frames lead to
+  -- the plugins are in such states as they have to be
   reached : IsReached (next r)
   reached =
       record {
@@ -321,6 +323,8 @@ module _ (r : Recovery) where
         reached = Opens (recovered (nodes r) (session r) (controller r) (gs r)) (history r) (may r).rows (form r) (shows r);
         form = (form r);
         shows = (shows r);
+        begins = refl;
+        closed = λ name. refl;
         frames = (frames r);
         more = λ frame among. among-append (old r).frames (map (answer_of r) (issued r)) frame among;
         right = subst IsRight same next-right;

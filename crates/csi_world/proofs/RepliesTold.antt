@@ -31,6 +31,15 @@ pub record IsFrameOf (issued : List Issued) (frame : Frame) : Type 0 where
 abbrev pub IsNoLater : (PluginThing → Option Issued) → PluginThing → Issued → Type 0
 IsNoLater latest thing call = (last : Issued) × (latest thing ≡ Some last) × ((call ≡ last) ⊎ IsBefore call.number last.number)
 
+-- what is kept was sent; or it is of no call, since calls are numbered from 1 on
+abbrev pub IsKeptOf : List Frame → Party → Kept → Type 0
+IsKeptOf frames party kept = IsAmong (reply_frame kept.number party kept.kind kept.reply) frames ⊎ (kept.number.call ≡ 0)
+
+-- so it is with more frames
+pub kept-more : (frames more : List Frame) (party : Party) (kept : Kept) → IsKeptOf frames party kept → IsKeptOf (frames ++ more) party kept
+kept-more frames more party kept (inl sent) = inl (among-append frames more (reply_frame kept.number party kept.kind kept.reply) sent)
+kept-more frames more party kept (inr none) = inr none
+
 -- what is so of the calls that were sent, of the latest one of each thing, of all frames, and of the things. Frames of sessions below the floor may be
 -- of calls that this history doesn't have: their plugins have reached the floor, and carry none of them out
 pub record Truth (floor : ℕ) (issued : List Issued) (latest : PluginThing → Option Issued) (frames : List Frame) (view : PluginView) : Type 0 where
@@ -39,7 +48,7 @@ pub record Truth (floor : ℕ) (issued : List Issued) (latest : PluginThing → 
   pub calls : (frame : Frame) (call : Call) → IsAmong frame frames → frame.body ≡ bodies.Call call → IsFrameOf issued frame ⊎ (frame.number.session < floor)
   pub replies : (number : Number) (party : Party) (kind : Kind) (reply : Reply) → IsAmong (reply_frame number party kind reply) frames → IsSent issued number ⊎ (number.session < floor)
   pub ids : (number : Number) (party : Party) (kind : Kind) (reply : Reply) → IsAmong (reply_frame number party kind reply) frames → reply.status ≡ Ok → IsTrue (has_id_by_rule kind reply)
-  pub kept : (thing : PluginThing) (kept : Kept) → view.kept thing ≡ Some kept → IsAmong (reply_frame kept.number (party_of thing) kept.kind kept.reply) frames
+  pub kept : (thing : PluginThing) (kept : Kept) → view.kept thing ≡ Some kept → IsKeptOf frames (party_of thing) kept
   pub numbers : EachTwo ComesAfter issued
   -- the latest call of a thing was sent for it, and each other call of it was sent before that, or is spent
   pub found : (thing : PluginThing) (call : Issued) → latest thing ≡ Some call → IsAmong call issued × (is_of thing call ≡ true)
@@ -79,7 +88,7 @@ truth-sent floor issued latest frames view call truth above later =
           ⊎_elim (λ sent. inl (record { call = sent.call; among = inr sent.among; has_number = sent.has_number })) (λ low. inr low)
           (truth.replies number party kind reply (before_call frames call number party kind reply among));
       ids = λ number party kind reply among. truth.ids number party kind reply (before_call frames call number party kind reply among);
-      kept = λ thing kept is. among-append frames (frame_of call ∷ []) _ (truth.kept thing kept is);
+      kept = λ thing kept is. kept-more frames (frame_of call ∷ []) (party_of thing) kept (truth.kept thing kept is);
       numbers = (all_of (ComesAfter call) issued later, truth.numbers);
       found = λ thing other is. found thing other (is_of thing call) refl is;
       order = λ other thing among of. order other thing among of (is_of thing call) refl;
@@ -165,7 +174,7 @@ module _ (issued : List Issued) (frames : List Frame) (old new : PluginView) (ca
     pub among : IsAmong call issued
     pub of : is_of thing call ≡ true
     pub rule : reply.status ≡ Ok → IsTrue (has_id_by_rule kind reply)
-    pub kept : (other : PluginThing) (k : Kept) → new.kept other ≡ Some k → IsAmong (reply_frame k.number (party_of other) k.kind k.reply) (frames ++ answer_to call kind reply ∷ [])
+    pub kept : (other : PluginThing) (k : Kept) → new.kept other ≡ Some k → IsKeptOf (frames ++ answer_to call kind reply ∷ []) (party_of other) k
     pub spent : (other : PluginThing) (number : Number) → IsTrue (old.is_spent other number) → IsTrue (new.is_spent other number)
     pub held : (k : PluginThing) → (new.held k ≡ old.held k) ⊎ IsChanged k
 
@@ -175,7 +184,7 @@ module _ (issued : List Issued) (frames : List Frame) (old new : PluginView) (ca
 
   -- what was kept was sent
   abbrev pub WasKept : Type 0
-  WasKept = (other : PluginThing) (k : Kept) → old.kept other ≡ Some k → IsAmong (reply_frame k.number (party_of other) k.kind k.reply) frames
+  WasKept = (other : PluginThing) (k : Kept) → old.kept other ≡ Some k → IsKeptOf frames (party_of other) k
 
   -- what is kept was kept before, or was sent
   abbrev pub IsKeptStill : Type 0
@@ -183,8 +192,8 @@ module _ (issued : List Issued) (frames : List Frame) (old new : PluginView) (ca
       → (old.kept other ≡ Some k) ⊎ IsAmong (reply_frame k.number (party_of other) k.kind k.reply) (frames ++ answer_to call kind reply ∷ [])
 
   -- so all that is kept was sent
-  kept-sent : WasKept → IsKeptStill → (other : PluginThing) (k : Kept) → new.kept other ≡ Some k → IsAmong (reply_frame k.number (party_of other) k.kind k.reply) (frames ++ answer_to call kind reply ∷ [])
-  kept-sent was still other k is = ⊎_elim (λ before. among-append frames (answer_to call kind reply ∷ []) _ (was other k before)) (λ now. now) (still other k is)
+  kept-sent : WasKept → IsKeptStill → (other : PluginThing) (k : Kept) → new.kept other ≡ Some k → IsKeptOf (frames ++ answer_to call kind reply ∷ []) (party_of other) k
+  kept-sent was still other k is = ⊎_elim (λ before. kept-more frames (answer_to call kind reply ∷ []) (party_of other) k (was other k before)) (λ now. inl now) (still other k is)
 
   -- a plugin carried the call out
   pub effect-acts : WasKept → IsAmong call issued → is_of thing call ≡ true → IsKeptStill → Acts thing (delivery_of call kind reply) old new → IsEffect
@@ -363,7 +372,7 @@ truth-low floor issued latest frames view number party kind truth low =
       calls = λ frame c among is. ⊎_elim (λ there. truth.calls frame c there is) (λ e. absurd (no_call c (sym (ap (λ (f : Frame). f.body) e) ∙ is))) (among-either frames last frame among);
       replies = λ n p k r among. ⊎_elim (truth.replies n p k r) (λ e. inr (subst (λ (x : Number). x.session < floor) (sym (ap (λ (f : Frame). f.number) e)) low)) (among-either frames last _ among);
       ids = λ n p k r among ok. truth.ids n p k r (before n p k r among ok) ok;
-      kept = λ thing k is. among-append frames (last ∷ []) _ (truth.kept thing k is);
+      kept = λ thing k is. kept-more frames (last ∷ []) (party_of thing) k (truth.kept thing k is);
       numbers = truth.numbers;
       found = truth.found;
       order = truth.order;

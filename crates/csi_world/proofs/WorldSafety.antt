@@ -13,7 +13,7 @@ use Rattle.csi_world.proofs.PluginsReached.{IsNodeOfFrames}
 use Rattle.csi_world.proofs.Deliveries.{PluginLaws}
 use Rattle.csi_world.proofs.RightWorlds.{IsRight}
 use Rattle.csi_world.proofs.ChoicesRight.{empty-right, all-right}
-use Rattle.csi_world.proofs.PluginSafety.{exclusive, published-staged}
+use Rattle.csi_world.proofs.PluginSafety.{published-staged}
 
 -- what the controller holds so is in its list
 held-there : (world : World) (id : ℕ) (at : List ℕ) (capability : Capability) (readonly : Bool) → (view_of world).held (Attached id at) ≡ Some (AttachedAs capability readonly) → IsAttachedAs world id at capability
@@ -53,7 +53,7 @@ staged-attached laws world right at staged there among =
 -- a world of which all is so that is kept of every world is safe
 pub right-safe : PluginLaws → (world : World) → IsRight world → Safe world
 right-safe laws world right =
-    let plugin = exclusive laws.exclusive world right.good.reached in
+    let plugin = right.good.reached.controller.exclusive in
     let staged = staged-attached laws world right in
     let published = published-staged laws.publishing world right.good.reached in
     record {

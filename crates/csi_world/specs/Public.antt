@@ -6,6 +6,7 @@ pub mod Simulating
 pub mod System
 pub mod Laws
 pub mod Recovered
+pub mod Rebuilt
 pub mod Recovery
 pub mod Outcomes
 pub mod Stale

@@ -9,8 +9,6 @@ pub fn stale_law()
     ensures { StaleLaw }
 {
     csi_controller::delivery_law();
-    csi_controller::names_law();
-    csi_controller::safety_law();
     csi_node::delivery_law();
     csi_node::safety_law();
 }

@@ -3,4 +3,4 @@ use Rattle.csi_world.proofs.RecoverySafety.{recovery-safe}
 use Rattle.csi_world.proofs.laws.recovery_law.Goals as goal
 
 pub returns : goal.returns
-returns c = recovery-safe (record { controller = c.delivery_law.ensures; names = c.names_law.ensures; exclusive = c.safety_law.ensures; node = c.delivery_law-2.ensures; publishing = c.safety_law-2.ensures })
+returns c = recovery-safe (record { controller = c.delivery_law.ensures; node = c.delivery_law-2.ensures; publishing = c.safety_law.ensures })

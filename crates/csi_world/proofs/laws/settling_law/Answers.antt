@@ -9,7 +9,7 @@ pub returns : goal.returns
 returns c = λ config events name.
     let laws : RunLaws
     = record {
-      plugins = record { controller = c.delivery_law.ensures; names = c.names_law.ensures; exclusive = c.safety_law.ensures; node = c.delivery_law-2.ensures; publishing = c.safety_law-2.ensures };
+      plugins = record { controller = c.delivery_law.ensures; node = c.delivery_law-2.ensures; publishing = c.safety_law.ensures };
       moves = c.moves_law.ensures;
       form = c.form_law.ensures;
     } in
