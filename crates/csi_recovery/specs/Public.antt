@@ -1,2 +1,4 @@
 pub mod Judged
+pub mod Rebuilding
+pub mod Rebuilt
 pub mod Session
