@@ -1,4 +1,3 @@
 pub mod Judged
 pub mod Rebuilding
-pub mod Rebuilt
 pub mod Session

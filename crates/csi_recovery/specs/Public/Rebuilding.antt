@@ -20,7 +20,7 @@ use Rattle.csi_recovery.specs.declared.fault.RecoveryFault.TheVariants as recove
 use Rattle.csi_recovery.specs.declared.rebuilding_fault.RebuildingFault.{RebuildingFault}
 use Rattle.csi_recovery.specs.declared.rebuilding_fault.RebuildingFault.TheVariants.{NumbersSpent, IdTaken, BadRow, NoMemory}
 use Rattle.csi_recovery.specs.Public.Judged.{IsKeptOf, AreApart, DoAgree, IsFirst}
-use Rattle.csi_recovery.specs.Public.Rebuilt.{IsRebuilt, rebuilt_volume}
+use Rattle.csi_world.specs.Public.Rebuilt.{IsRebuilt, rebuilt_volume}
 
 -- ---- ids
 
