@@ -290,6 +290,7 @@ def listed(system, without):
         for number in THREE:
             system[number](command)
         read_anew(system, lambda said, want="mv" in command: (f"node:m{without} " in said) == want)
+    reached(system)
 
 
 def add(system, packages):
@@ -305,6 +306,7 @@ def add(system, packages):
         system[number](f"sed -i.before 's|^ *{{\"id\": \"m5\".*|&,\\n    {line}|' {FILES}/set.json")
     machine(f"tufayon-node --check {FILES}/node.json && systemctl enable --now tufayon-node@{SET}")
     read_anew(system, lambda said: "node:m6 " in said)
+    reached(system)
     system.told("create u --size 1G --wait", "u .* yes")
     soon("a use at the new node", lambda: system.ask("use u m6 /srv/u --wait", check=False)[0] == 0)
     machine("mountpoint -q /srv/u")
@@ -315,6 +317,7 @@ def add(system, packages):
     for number in THREE:
         system[number](f"mv {FILES}/set.json.before {FILES}/set.json")
     read_anew(system, lambda said: "node:m6 " not in said)
+    reached(system)
 
 
 def read_anew(system, is_so):
@@ -324,7 +327,6 @@ def read_anew(system, is_so):
     soon("another list", lambda: is_so(system.ask("nodes")[1]))
     for number in system.of("controller"):
         system[number](f"systemctl reload tufayon-controller@{SET}")
-    reached(system)
 
 
 # ---- upgrades
