@@ -96,6 +96,30 @@ func TestDoing(t *testing.T) {
 	}
 }
 
+// By arrival too a call's number is told to who sees the call: one whose deed failed has one, and one that was refused before has none.
+func TestNumberTold(t *testing.T) {
+	config := Config{Make: making(10, &faults{}), Store: newMemory(), Numbering: func(latest uint64) (numbers.Source, error) { return numbers.NewArrival(latest) }}
+	core, err := Open(context.Background(), config)
+	if err != nil {
+		t.Fatal(err)
+	}
+	defer core.Close()
+	fails := func(context.Context, Known) (any, error) { return nil, errors.New("it fails") }
+	for at, it := range []struct {
+		request Request
+		number  string
+	}{
+		{stage(1), "1.1"}, {stage(2), "1.2"}, {Request{Node: "n1", Body: stage(3).Body, Act: fails}, "1.3"},
+		{Request{Bind: func(View) (Bound, error) { return Bound{}, errMemory }, Kind: frames.NodeStageVolumeKind}, ""},
+	} {
+		ctx, number := numbers.Telling(context.Background())
+		core.Carry(ctx, it.request)
+		if got := number(); got != it.number {
+			t.Errorf("call %d has %q, not %q", at, got, it.number)
+		}
+	}
+}
+
 // What undoes something is in the store only once it is undone; where that fails nothing is changed, not even the session.
 func TestUndoing(t *testing.T) {
 	kept, deed := newMemory(), newDeed()
