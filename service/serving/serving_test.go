@@ -12,6 +12,7 @@ import (
 	"google.golang.org/grpc/status"
 
 	"tufayon/service/frames"
+	"tufayon/service/numbers"
 	"tufayon/service/store"
 )
 
