@@ -14,8 +14,8 @@ import (
 	"tufayon/service/tracing"
 )
 
-// Logging has a line of the log for each numbered call: which volume, number and trace, what came of it, and how long it took. Nothing private stands in
-// it: no secret, no parameter and no context. It belongs to a server, before all else.
+// Logging has a line of the log for each numbered call: which volume, number (by arrival the one that it was given) and trace, what came of it, and how
+// long it took. Nothing private stands in it: no secret, no parameter and no context. It belongs to a server, before all else.
 func Logging(log *zap.Logger) grpc.UnaryServerInterceptor {
 	return func(ctx context.Context, request any, info *grpc.UnaryServerInfo, handle grpc.UnaryHandler) (any, error) {
 		kind := info.FullMethod[strings.LastIndex(info.FullMethod, "/")+1:]
@@ -23,12 +23,12 @@ func Logging(log *zap.Logger) grpc.UnaryServerInterceptor {
 			return handle(ctx, request)
 		}
 		began := time.Now()
+		ctx, given := numbers.Telling(ctx)
 		response, err := handle(ctx, request)
 		told := status.Convert(err)
 		fields := []zap.Field{zap.String("kind", kind), zap.String("volume", volumeIn(request))}
-		headers, _ := metadata.FromIncomingContext(ctx)
-		if number := headers.Get(numbers.Key); len(number) == 1 {
-			fields = append(fields, zap.String("number", number[0]))
+		if number := numberIn(ctx, given()); number != "" {
+			fields = append(fields, zap.String("number", number))
 		}
 		if trace := tracing.From(ctx); trace != "" {
 			fields = append(fields, zap.String("trace", trace))
@@ -37,6 +37,15 @@ func Logging(log *zap.Logger) grpc.UnaryServerInterceptor {
 		log.Info("a call", fields...)
 		return response, err
 	}
+}
+
+// numberIn is the number that came with a call, or else the one that it was given by its arrival.
+func numberIn(ctx context.Context, given string) string {
+	headers, _ := metadata.FromIncomingContext(ctx)
+	if came := headers.Get(numbers.Key); len(came) == 1 {
+		return came[0]
+	}
+	return given
 }
 
 // volumeIn is a request's volume, or the name of one that is to be made.

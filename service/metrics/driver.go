@@ -28,7 +28,7 @@ const (
 // A Driver has the metrics of a CSI driver. It is told what happens as an observer of its life.
 type Driver struct {
 	Ends  func() map[string]time.Time // when each certificate ends, by its file; may be nil
-	Nodes func() int                  // how many nodes a controller before another driver has: nil where that isn't counted, or 0
+	Nodes func() int                  // how many nodes of a controller before another driver are configured or have something attached: nil of any other
 
 	registry                         *prometheus.Registry
 	calls                            *prometheus.CounterVec
@@ -51,9 +51,9 @@ func NewDriver(program, plugin string) *Driver {
 		stale:    newCounter(driver, "stale_calls_total", "Calls that came late, and were refused by the fence.", "kind"),
 		sessions: newCounter(driver, "refused_sessions_total", "Sessions that the plugin didn't begin: it has heard of later numbers, so that the "+
 			"service's store is an older copy, or of earlier ones than it said before, so that its own is.", "heard"),
-		deeds:         newCounter(driver, "deeds_total", "Hooks, mounts or unmounts that were done, or failed.", "kind", "outcome"),
+		deeds:         newCounter(driver, "deeds_total", "Hooks, mounts, unmounts or calls of the driver behind that were done, or failed.", "kind", "outcome"),
 		callSeconds:   newSeconds(driver, "call_seconds", "How long calls took.", callBuckets, "kind"),
-		deedSeconds:   newSeconds(driver, "deed_seconds", "How long hooks, mounts and unmounts took.", callBuckets, "kind"),
+		deedSeconds:   newSeconds(driver, "deed_seconds", "How long hooks, mounts, unmounts and calls of the driver behind took.", callBuckets, "kind"),
 		commitSeconds: newCommits(driver),
 		commitFailures: prometheus.NewCounter(prometheus.CounterOpts{Namespace: namespace, Subsystem: driver, Name: "commit_failures_total",
 			Help: "Commits that failed, each of which ends the driver."}),
@@ -149,7 +149,7 @@ var (
 	heardDesc       = describe(driver, "session", "The latest session that the plugin has heard of.")
 	pluginRowsDesc  = describe(driver, "rows", "Volumes that the plugin has rows of, those that a later session forgets too.")
 	pluginLimitDesc = describe(driver, "rows_limit", "How many rows there may be.")
-	nodesDesc       = describe(driver, "nodes", "Nodes that a controller before another driver has, configured ones and those to which something was attached.")
+	nodesDesc       = describe(driver, "nodes", "Nodes of a controller before another driver that are configured, or to which something is attached.")
 	nodesLimitDesc  = describe(driver, "nodes_limit", "How many nodes there may be.")
 	callsOpenDesc   = describe(driver, "calls_under_way", "Calls that wait or are under way.")
 	committingDesc  = describe(driver, "commit_under_way_seconds", "How long the present commit has taken; 0 where there is none.")
@@ -179,7 +179,7 @@ func (made *Driver) Collect(to chan<- prometheus.Metric) {
 	to <- gauge(pluginLimitDesc, mostRows)
 	to <- gauge(callsOpenDesc, float64(counts.Calls))
 	to <- gauge(committingDesc, counts.Committing.Seconds())
-	if made.Nodes != nil && made.Nodes() > 0 {
+	if made.Nodes != nil {
 		to <- gauge(nodesDesc, float64(made.Nodes()))
 		to <- gauge(nodesLimitDesc, upstream.MostNodes)
 	}

@@ -99,6 +99,7 @@ func servePlugin(ctx context.Context, program string, read *settings.PluginSetti
 	anew := make(chan os.Signal, 1)
 	signal.Notify(anew, syscall.SIGHUP)
 	defer signal.Stop(anew)
+	log = log.With(zap.String("plugin", read.Name()))
 	running := &serving{read: read, log: log}
 	running.users.Store(read.Plugin.Users)
 	running.amiss.Store("")

@@ -10,6 +10,7 @@ import (
 	"net/http"
 	"os"
 	"path/filepath"
+	"regexp"
 	"strings"
 	"syscall"
 	"testing"
@@ -287,6 +288,7 @@ func TestUpstream(t *testing.T) {
 	ctx, cancel := context.WithTimeout(context.Background(), 2*within)
 	defer cancel()
 	set := newSet(t)
+	said := set.hears()
 	set.nodes = []string{"n1 127.0.0.1:1"}
 	set.list()
 	upstreamtest.Start(t, set.path("u.sock")).Has("old", "old")
@@ -305,9 +307,9 @@ func TestUpstream(t *testing.T) {
 	if told := status.Convert(err); told.Code() != codes.FailedPrecondition || told.Message() != "a node of the platform's" {
 		t.Errorf("attached twice: %v", err)
 	}
-	watched := set.scraped("w.sock")
+	watched := set.scraped("w.sock") // n2 is named, and nothing is attached there
 	for _, it := range []string{
-		`tufayon_driver_nodes{plugin="controller"} 3`, `tufayon_driver_nodes_limit{plugin="controller"} 64`, `tufayon_driver_rows{plugin="controller"} 1`,
+		`tufayon_driver_nodes{plugin="controller"} 2`, `tufayon_driver_nodes_limit{plugin="controller"} 64`, `tufayon_driver_rows{plugin="controller"} 1`,
 		`tufayon_driver_calls_total{kind="ControllerPublishVolume",plugin="controller",status="FailedPrecondition"} 1`,
 		`tufayon_driver_deeds_total{kind="ControllerPublishVolume",outcome="done",plugin="controller"} 1`,
 	} {
@@ -318,6 +320,20 @@ func TestUpstream(t *testing.T) {
 	stage := &wire.NodeStageVolumeRequest{VolumeId: "old", StagingTargetPath: "/s", VolumeCapability: how}
 	if _, _, err := upstreamtest.Call(ctx, node, "/csi.v1.Node/NodeStageVolume", stage, "3", grpc.WaitForReady(true)); err != nil {
 		t.Errorf("staged: %v", err)
+	}
+	detach := &wire.ControllerUnpublishVolumeRequest{VolumeId: "old", NodeId: "a node of the platform's"}
+	if _, _, err := upstreamtest.Call(ctx, controller, "/csi.v1.Controller/ControllerUnpublishVolume", detach, "4"); err != nil {
+		t.Errorf("detached: %v", err)
+	}
+	if watched := set.scraped("w.sock"); !strings.Contains(watched, `tufayon_driver_nodes{plugin="controller"} 1`) {
+		t.Errorf("who watches isn't told that nothing is attached: %s", watched)
+	}
+	logged := regexp.MustCompile(`"plugin":"controller","kind":"ControllerPublishVolume","volume":"old","number":"\d+\.\d+","status":"FailedPrecondition","detail":"a node of the platform's","took":`)
+	for !logged.MatchString(said()) && ctx.Err() == nil { // lines wait for a moment
+		time.Sleep(10 * time.Millisecond)
+	}
+	if !logged.MatchString(said()) {
+		t.Errorf("the log has no %v: %s", logged, said())
 	}
 }
 

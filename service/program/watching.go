@@ -105,7 +105,7 @@ func watchedOptions(told *metrics.Driver, log *zap.Logger) []grpc.ServerOption {
 // watchUpstream has the calls of a driver before another one seen, and its nodes counted.
 func watchUpstream(behind *upstream.Proxy, told *metrics.Driver, log *zap.Logger) {
 	behind.Watch(watchers(told, log)...)
-	told.Nodes = behind.Nodes
+	told.Nodes = behind.Nodes()
 }
 
 // WatchPlugin has a plugin of csi-driver's watched at an address, a Unix socket's or one on loopback. It gives what the plugin's life and servers need,
@@ -118,6 +118,7 @@ func WatchPlugin(program, plugin string, behind *upstream.Proxy, address, level 
 	if level == "" {
 		log = zap.NewNop()
 	}
+	log = log.With(zap.String("plugin", plugin))
 	told := metrics.NewDriver(program, plugin)
 	if address != "" && !carrying.IsLocal(address) && !web.IsLoopback(address) {
 		return nil, nil, nil, fmt.Errorf("%w: %q is neither a Unix socket nor on loopback", ErrUsage, address)

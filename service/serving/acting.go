@@ -165,7 +165,8 @@ func (core *Core) letGo(ctx context.Context, request Request) (asked asked, err 
 	return asked, err
 }
 
-// tryUndo asks a copy of the plugin whether something is to be undone, and if not, the plugin: what the copy said nobody else can have changed.
+// tryUndo asks a copy of the plugin whether something is to be undone, and if not, the plugin: what the copy said nobody else can have changed. That it is to
+// be undone waits for nobody else's commit: what a row or the latest session may lose with that allows no less.
 func (core *Core) tryUndo(ctx context.Context, request Request) (asked asked, known Known, acts bool, err error) {
 	err = core.inTurn(ctx, func(group *group) (bool, error) {
 		plan, err := core.plan(ctx, request, true)
@@ -176,6 +177,7 @@ func (core *Core) tryUndo(ctx context.Context, request Request) (asked asked, kn
 		if acts, err = core.allows(plan, known); err == nil && !acts {
 			asked, err = core.askAll(group, plan)
 		}
+		group.atOnce = acts
 		return true, err
 	})
 	return asked, known, acts, err

@@ -43,6 +43,7 @@ type group struct {
 	sideAt  map[string]int
 	late    int // how many of the sides are of rows that went with an earlier commit
 	confirm bool
+	atOnce  bool // the job that runs changes nothing, and what it tells holds whatever becomes of the group
 }
 
 func newGroup() *group {
@@ -136,7 +137,8 @@ func (core *Core) waiting(first *job) []*job {
 	return jobs
 }
 
-// carryOut runs jobs, and tells each what came of it once that is committed. Where a commit fails, none of its group is told anything but that.
+// carryOut runs jobs, and tells each what came of it once that is committed, or at once where that is enough. Where a commit fails, none of its group is told
+// anything but that.
 func (core *Core) carryOut(jobs []*job) {
 	group := newGroup()
 	for _, job := range jobs {
@@ -145,9 +147,14 @@ func (core *Core) carryOut(jobs []*job) {
 			close(job.ran)
 			continue
 		}
-		group.jobs = append(group.jobs, job)
+		group.jobs, group.atOnce = append(group.jobs, job), false
 		var confirm bool
 		confirm, job.err = job.run(group)
+		if group.atOnce && store.IsLocked(core.config.Store) { // there is nothing to confirm either
+			group.jobs = group.jobs[:len(group.jobs)-1]
+			close(job.ran)
+			continue
+		}
 		group.confirm = group.confirm || confirm
 		if group.isFull() {
 			core.settle(group)
@@ -305,8 +312,11 @@ func (core *Core) known(number frames.Number, volume uint64) Known {
 func (core *Core) number(ctx context.Context, request Request, judged bool) (frames.Number, error) {
 	known := core.known(frames.Number{}, request.Body.Volume())
 	number, err := core.source.Number(ctx, numbers.Of{Kind: request.Body.Kind(), HasRow: known.Row != nil, Latest: known.Session})
-	if err == nil && !core.isBegun(number.Session) {
-		err = errNotBegun
+	if err == nil {
+		numbers.Tell(ctx, number)
+		if !core.isBegun(number.Session) {
+			err = errNotBegun
+		}
 	}
 	if err != nil || !judged || request.Judge == nil {
 		return number, err

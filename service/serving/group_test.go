@@ -1,6 +1,7 @@
 package serving
 
 import (
+	"context"
 	"sync"
 	"testing"
 	"time"
@@ -133,6 +134,67 @@ func TestMemoryOfACopy(t *testing.T) {
 		t.Errorf("the store has it: %v, and it was undone %d times", kept.has(1), deed.times())
 	}
 	wants(t, core, numbered(1, 2), unstage(1).by(deed), codes.OK)
+}
+
+// locked is a store that is this process's as long as it is open.
+type locked struct{ *memory }
+
+func (locked) IsLocked() bool { return true }
+
+// What is undone waits for nobody else's commit before that, unless the store has to confirm that it is still ours; its own it waits for.
+func TestUndoneAtOnce(t *testing.T) {
+	for _, isLocked := range []bool{false, true} {
+		kept, deed := newMemory(), newDeed()
+		config := Config{Make: making(10, &faults{}), Store: kept, Notes: opened(beside{kept}), Numbering: byMetadata}
+		if isLocked {
+			config.Store = locked{kept}
+		}
+		core, err := Open(context.Background(), config)
+		if err != nil {
+			t.Fatal(err)
+		}
+		defer core.Close()
+		wants(t, core, numbered(1, 1), stage(9), codes.OK)
+		holds := []chan struct{}{make(chan struct{}), make(chan struct{}), make(chan struct{})}
+		holdNext := func(at int) {
+			kept.mutex.Lock()
+			kept.hold = holds[at]
+			kept.mutex.Unlock()
+		}
+		holdNext(0)
+		ended := []<-chan error{carry(core, numbered(1, 2), stage(1))}
+		time.Sleep(20 * time.Millisecond) // it is in the commit by then
+		ended = append(ended, carry(core, numbered(1, 3), stage(2)), carry(core, numbered(1, 4), unstage(9).by(deed)))
+		time.Sleep(20 * time.Millisecond) // these wait together
+		holdNext(1)
+		close(holds[0])
+		select {
+		case <-deed.begun:
+			if !isLocked {
+				t.Error("it is undone before the store was confirmed")
+			}
+		case <-time.After(200 * time.Millisecond):
+			if isLocked {
+				t.Error("what is undone waits for another's commit")
+			}
+		}
+		holdNext(2)
+		close(holds[1])
+		close(deed.goOn)
+		time.Sleep(20 * time.Millisecond)
+		select {
+		case err := <-ended[2]:
+			t.Errorf("it is answered before its commit: %v", err)
+		default:
+		}
+		close(holds[2])
+		for _, it := range ended {
+			wantsError(t, it, codes.OK)
+		}
+		if kept.has(9) || !kept.has(1) || !kept.has(2) {
+			t.Errorf("the store has %s", kept.text())
+		}
+	}
 }
 
 // A group is committed early where a transaction would get too large.

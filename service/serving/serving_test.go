@@ -12,6 +12,7 @@ import (
 	"google.golang.org/grpc/status"
 
 	"tufayon/service/frames"
+	"tufayon/service/numbers"
 	"tufayon/service/store"
 )
 
@@ -93,6 +94,30 @@ func TestDoing(t *testing.T) {
 	wants(t, open(t, kept, 10, &faults{}), numbered(1, 2), stage(1).by(deed), codes.OK) // another process doesn't know that it was done
 	if deed.times() != 4 {
 		t.Errorf("it was done %d times", deed.times())
+	}
+}
+
+// By arrival too a call's number is told to who sees the call: one whose deed failed has one, and one that was refused before has none.
+func TestNumberTold(t *testing.T) {
+	config := Config{Make: making(10, &faults{}), Store: newMemory(), Numbering: func(latest uint64) (numbers.Source, error) { return numbers.NewArrival(latest) }}
+	core, err := Open(context.Background(), config)
+	if err != nil {
+		t.Fatal(err)
+	}
+	defer core.Close()
+	fails := func(context.Context, Known) (any, error) { return nil, errors.New("it fails") }
+	for at, it := range []struct {
+		request Request
+		number  string
+	}{
+		{stage(1), "1.1"}, {stage(2), "1.2"}, {Request{Node: "n1", Body: stage(3).Body, Act: fails}, "1.3"},
+		{Request{Bind: func(View) (Bound, error) { return Bound{}, errMemory }, Kind: frames.NodeStageVolumeKind}, ""},
+	} {
+		ctx, number := numbers.Telling(context.Background())
+		core.Carry(ctx, it.request)
+		if got := number(); got != it.number {
+			t.Errorf("call %d has %q, not %q", at, got, it.number)
+		}
 	}
 }
 

@@ -158,6 +158,9 @@ func apply(tx transaction, change Change) error {
 	return tx.run(putPart, key, change.Value)
 }
 
+// IsLocked says so: the file's lock is ours until it is closed.
+func (store *sqlite) IsLocked() bool { return true }
+
 func (store *sqlite) Lost() <-chan struct{} { return store.lost }
 
 // Close puts the log back into the file, which alone is the store then.

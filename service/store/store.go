@@ -34,6 +34,18 @@ type Store interface {
 	Close() error
 }
 
+// A Locked is a store that nobody else can have before it is closed.
+type Locked interface {
+	Store
+	IsLocked() bool
+}
+
+// IsLocked says whether a store stays this process's as long as it is open, so that there is nothing to confirm.
+func IsLocked(kept Store) bool {
+	locked, is := kept.(Locked)
+	return is && locked.IsLocked()
+}
+
 // What a store's failures are.
 var (
 	ErrNotOpened = errors.New("store not opened")

@@ -40,6 +40,8 @@ func killed(kept store.Keeper) store.Store {
 	return &killing{Keeper: kept, at: at}
 }
 
+func (killing *killing) IsLocked() bool { return store.IsLocked(killing.Keeper) }
+
 func (killing *killing) Commit(ctx context.Context, anew bool, changes []store.Change) error {
 	return killing.around(len(changes), func() error { return killing.Keeper.Commit(ctx, anew, changes) })
 }

@@ -5,7 +5,6 @@ import (
 	"context"
 	"encoding/json"
 	"fmt"
-	"sync/atomic"
 
 	"google.golang.org/grpc/codes"
 	"google.golang.org/grpc/status"
@@ -34,20 +33,18 @@ type nodes struct {
 	Greatest uint64 `json:"greatest"`
 	Nodes    []node `json:"nodes"`
 	fixed    int    // so many of them are configured
-	count    *atomic.Int64
 }
 
 // errNodes refuses a node for which there is no room: at each of those that the plugin has something is attached.
 var errNodes = status.Error(codes.ResourceExhausted, "nodes")
 
 // readNodes reads a configuration that the plugin takes.
-func readNodes(config []byte, count *atomic.Int64) (*nodes, error) {
-	its := &nodes{count: count}
+func readNodes(config []byte) (*nodes, error) {
+	its := &nodes{}
 	if err := json.Unmarshal(config, its); err != nil {
 		return nil, fmt.Errorf("the list of nodes: %w", err)
 	}
 	its.fixed = len(its.Nodes)
-	count.Store(int64(its.fixed))
 	return its, nil
 }
 
@@ -83,16 +80,12 @@ func (its *nodes) with(id string, view serving.View) (serving.Make, error) {
 			return nil, false, err
 		}
 		its.Nodes = next
-		its.count.Store(int64(len(next)))
 		return made, renewed, nil
 	}, nil
 }
 
-// Nodes is how many nodes the plugin of a controller has now, of MostNodes: 0 of a node's.
-func (proxy *Proxy) Nodes() int { return int(proxy.count.Load()) }
-
-// withoutIdle leaves out the node that was named first of those at which nothing is attached.
-func (its *nodes) withoutIdle(view serving.View) []node {
+// busy are the nodes to which something is attached.
+func busy(view serving.View) map[string]bool {
 	busy := map[string]bool{}
 	for _, volume := range view.Volumes() {
 		if row, err := records.ReadVolume(view.Row(volume)); err == nil {
@@ -101,12 +94,35 @@ func (its *nodes) withoutIdle(view serving.View) []node {
 			}
 		}
 	}
+	return busy
+}
+
+// withoutIdle leaves out the node that was named first of those at which nothing is attached.
+func (its *nodes) withoutIdle(view serving.View) []node {
+	busy := busy(view)
 	for at := its.fixed; at < len(its.Nodes); at++ {
 		if !busy[its.Nodes[at].ID] {
 			return append(append([]node(nil), its.Nodes[:at]...), its.Nodes[at+1:]...)
 		}
 	}
 	return its.Nodes
+}
+
+// taken is how many nodes don't give way: the configured ones, and those to which something is attached.
+func (its *nodes) taken(view serving.View) int {
+	busy := busy(view)
+	for _, it := range its.Nodes[:its.fixed] {
+		busy[it.ID] = true
+	}
+	return len(busy)
+}
+
+// Nodes gives what counts the nodes that are configured or have something attached, MostNodes at most: nil of a node's driver.
+func (proxy *Proxy) Nodes() func() int {
+	if proxy.options.Node != "" {
+		return nil
+	}
+	return proxy.taken.count
 }
 
 func (its *nodes) config() ([]byte, error) {

@@ -10,7 +10,6 @@ import (
 	"runtime/debug"
 	"strings"
 	"sync"
-	"sync/atomic"
 	"time"
 
 	"google.golang.org/grpc"
@@ -43,7 +42,7 @@ type Proxy struct {
 	known   capabilities
 	nodes   *nodes // of a controller; only the plugin's goroutine has it
 	lost    map[string]bool
-	count   atomic.Int64 // of nodes
+	taken   gauge // of nodes
 	watch   []grpc.UnaryServerInterceptor
 
 	mutex sync.Mutex
@@ -76,7 +75,7 @@ func (proxy *Proxy) Opened(ctx context.Context, core *serving.Core, maker plugin
 	if !maker.IsController {
 		return nil
 	}
-	listed, err := readNodes(maker.Name, &proxy.count)
+	listed, err := readNodes(maker.Name)
 	if err != nil {
 		return err
 	}
@@ -86,6 +85,7 @@ func (proxy *Proxy) Opened(ctx context.Context, core *serving.Core, maker plugin
 	}); err != nil {
 		return err
 	}
+	proxy.taken.of(core, listed.taken)
 	return proxy.letGoOfLost(ctx, core)
 }
 
