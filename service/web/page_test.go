@@ -280,10 +280,13 @@ func says(browser *webtest.Browser, expression, want string) error {
 // keyboard uses the page without a mouse.
 func (made *scene) keyboard(browser *webtest.Browser) {
 	made.Helper()
-	if err := browser.Ask(`document.getElementById('scroller').focus()`, nil); err != nil {
+	if err := browser.Ask(`document.getElementById('grid').focus()`, nil); err != nil {
 		made.Fatal(err)
 	}
 	browser.Press("ArrowDown")
+	made.soon("whoever has the focus is told of the row", func() error {
+		return says(browser, `document.activeElement.getAttribute('role') + ' ' + (document.getElementById(document.activeElement.getAttribute('aria-activedescendant')) || {dataset: {}}).dataset.name`, "grid after")
+	})
 	browser.Press("Enter")
 	made.soon("a volume is shown", func() error { return says(browser, `document.getElementById('volume-name').textContent`, "after") })
 	browser.Press("Escape")

@@ -239,8 +239,8 @@ function drawRows() {
     fill(row, shown[at], at)
   }
   const at = shown.findIndex(it => it.name === active)
-  if (drawn.has(at)) scroller.setAttribute('aria-activedescendant', 'row-' + at)
-  else scroller.removeAttribute('aria-activedescendant')
+  if (drawn.has(at)) by('grid').setAttribute('aria-activedescendant', 'row-' + at)
+  else by('grid').removeAttribute('aria-activedescendant')
   return height
 }
 
@@ -254,7 +254,8 @@ function move(to) {
 }
 
 by('scroller').addEventListener('scroll', drawRows, { passive: true })
-by('scroller').addEventListener('keydown', event => {
+by('scroller').addEventListener('focus', () => by('grid').focus({ preventScroll: true })) // who clicks has the keys too
+by('grid').addEventListener('keydown', event => {
   const at = shown.findIndex(it => it.name === active), page = Math.max(1, drawn.size - 9)
   const to = { ArrowDown: at + 1, ArrowUp: at - 1, PageDown: at + page, PageUp: at - page, Home: 0, End: shown.length - 1 }[event.key]
   if (to !== undefined) { event.preventDefault(); move(to) } else if (event.key === 'Enter' && at >= 0) show(active)
@@ -264,7 +265,7 @@ addEventListener('keydown', event => {
   if (event.key === '/' && !open && !/INPUT|SELECT/.test(document.activeElement.tagName)) { event.preventDefault(); tab('volumes'); by('find').focus() }
 })
 for (const id of ['find', 'show']) by(id).addEventListener('input', () => { by('scroller').scrollTop = 0; draw() })
-by('filter').addEventListener('submit', event => { event.preventDefault(); if (shown.length) move(0); by('scroller').focus() })
+by('filter').addEventListener('submit', event => { event.preventDefault(); if (shown.length) move(0); by('grid').focus() })
 by('node-filter').onclick = () => { node = ''; draw() }
 
 function draw() { choose(); drawRows(); drawHead(); drawPlugins(); if (open) drawWaits() }
@@ -304,7 +305,7 @@ function show(name) {
   if (!by('volume').open) by('volume').showModal()
   if (location.hash !== '#' + encodeURIComponent(name)) history.replaceState(null, '', '#' + encodeURIComponent(name))
 }
-by('volume').addEventListener('close', () => { open = ''; history.replaceState(null, '', location.pathname); by('scroller').focus() })
+by('volume').addEventListener('close', () => { open = ''; history.replaceState(null, '', location.pathname); by('grid').focus() })
 
 function drawWaits() {
   const volume = volumes.get(open), to = by('volume-waits')
