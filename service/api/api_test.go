@@ -43,6 +43,12 @@ func (it plugins) States() map[string]carrying.State { return it }
 // Unmounted says of a node that says anything of itself that no volume is mounted there.
 func (it plugins) Unmounted(node string, _ uint64) string { return it[carrying.NodeName(node)].Amiss }
 
+// A carrier that is one of these says itself how it stands with the plugins.
+type telling struct {
+	host.Carrier
+	plugins
+}
+
 // serve serves a new orchestrator of nodes n1, n2 and so on at a listener.
 func serve(t testing.TB, kept store.Store, carrier host.Carrier, nodes int, listener net.Listener, known credentials.TransportCredentials, roles *api.Roles) *host.Host {
 	t.Helper()
@@ -55,9 +61,11 @@ func serveBy(
 ) *host.Host {
 	t.Helper()
 	options.Times = host.Times{Patience: time.Minute, Retry: time.Millisecond, MostRetry: time.Second}
-	states := plugins{
+	var states api.Plugins = plugins{
 		carrying.Controller: {Address: "unix:///c", Connection: "READY"}, "node:n1": {Address: "unix:///n1", Queued: 3, Trouble: "gone"},
-		"node:n2": {Address: "unix:///n2", Connection: "READY", Amiss: "nothing is mounted"},
+	}
+	if its, is := options.Carrier.(telling); is {
+		states = its
 	}
 	for at := 1; at <= nodes; at++ {
 		options.Nodes = append(options.Nodes, fmt.Sprint("n", at))
@@ -172,7 +180,8 @@ func TestCommands(t *testing.T) {
 
 // A use that is so as the record has it, but not at the node, whose machine was started again, isn't reached, and the volume says why.
 func TestUnmounted(t *testing.T) {
-	connection, _, _ := serveLocal(t, hosttest.NewStore(), &hosttest.Carrier{}, 2, api.Loses)
+	carrier := telling{&hosttest.Carrier{}, plugins{"node:n2": {Address: "unix:///n2", Connection: "READY", Amiss: "nothing is mounted"}}}
+	connection, _, _ := serveLocal(t, hosttest.NewStore(), carrier, 2, api.Loses)
 	client := wire.NewOrchestratorClient(connection)
 	shared := &wire.Capability{Mode: 5}
 	if _, err := client.Create(ctx, &wire.CreateRequest{Name: "v", Capabilities: []*wire.Capability{shared}, Wait: wire.Wait_AT_REST}); err != nil {

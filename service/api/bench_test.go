@@ -11,6 +11,8 @@ import (
 	"testing"
 	"time"
 
+	"google.golang.org/grpc"
+
 	"tufayon/service/api"
 	"tufayon/service/api/wire"
 	"tufayon/service/etcd"
@@ -65,7 +67,7 @@ type caller struct {
 	name, node string
 }
 
-func (it caller) turn(b *testing.B, note func(time.Duration)) bool {
+func (it caller) turn(t testing.TB, note func(time.Duration)) bool {
 	for _, ask := range []func() (*wire.Volume, error){
 		func() (*wire.Volume, error) {
 			return it.client.Use(ctx, &wire.UseRequest{Name: it.name, Node: it.node, Target: "/a", Capability: block, Wait: wire.Wait_AT_REST})
@@ -77,7 +79,7 @@ func (it caller) turn(b *testing.B, note func(time.Duration)) bool {
 		began := time.Now()
 		volume, err := ask()
 		if err != nil || !volume.Reached {
-			b.Errorf("%v, %v", volume, err)
+			t.Errorf("%v, %v", volume, err)
 			return false
 		}
 		note(time.Since(began))
@@ -85,20 +87,34 @@ func (it caller) turn(b *testing.B, note func(time.Duration)) bool {
 	return true
 }
 
+// callersOf are callers with a volume each, in turn at these nodes.
+func callersOf(t testing.TB, connection *grpc.ClientConn, nodes, callers int) (all []caller) {
+	t.Helper()
+	for at := 0; at < callers; at++ {
+		it := caller{wire.NewOrchestratorClient(connection), fmt.Sprint("v", at), fmt.Sprint("n", 1+at%nodes)}
+		request := &wire.CreateRequest{Name: it.name, Capabilities: []*wire.Capability{block}, Wait: wire.Wait_AT_REST}
+		if _, err := it.client.Create(ctx, request); err != nil {
+			t.Fatal(err)
+		}
+		all = append(all, it)
+	}
+	return all
+}
+
+// What is measured comes to be, at each node.
+func TestCallers(t *testing.T) {
+	connection, _, _ := serveLocal(t, hosttest.NewStore(), &hosttest.Carrier{}, 8, api.Loses)
+	for _, it := range callersOf(t, connection, 8, 16) {
+		it.turn(t, func(time.Duration) {})
+	}
+}
+
 func benchmarkUse(b *testing.B, over string, nodes, callers int) {
 	kept, alone := open(b, over)
 	defer kept.Close()
 	connection, made, _ := serveLocal(b, kept, &hosttest.Carrier{}, nodes, api.Loses)
 	defer made.Close()
-	var all []caller
-	for at := 0; at < callers; at++ {
-		it := caller{wire.NewOrchestratorClient(connection), fmt.Sprint("v", at), fmt.Sprint("n", 1+at%nodes)}
-		request := &wire.CreateRequest{Name: it.name, Capabilities: []*wire.Capability{block}, Wait: wire.Wait_AT_REST}
-		if _, err := it.client.Create(ctx, request); err != nil {
-			b.Fatal(err)
-		}
-		all = append(all, it)
-	}
+	all := callersOf(b, connection, nodes, callers)
 	kept.reset()
 	b.ResetTimer()
 	took, lasted := atOnce(b, all)

@@ -4,7 +4,6 @@ import (
 	"context"
 	"errors"
 	"fmt"
-	"os"
 	"strings"
 	"testing"
 	"time"
@@ -14,9 +13,6 @@ import (
 
 // Sides are there with the commit that puts them, small or large, and not with one of who leads no more.
 func TestSides(t *testing.T) {
-	if os.Getenv("TUFAYON_TEST_ETCD") == "" {
-		t.Skip("it starts etcd only where it is asked to")
-	}
 	ctx, config := context.Background(), server(t)
 	kept := open(t, config)
 	has := func(want string) {
@@ -66,9 +62,6 @@ func TestSides(t *testing.T) {
 
 // Who leads is found by what it says of itself, and nobody once it ends.
 func TestFinder(t *testing.T) {
-	if os.Getenv("TUFAYON_TEST_ETCD") == "" {
-		t.Skip("it starts etcd only where it is asked to")
-	}
 	ctx, config := context.Background(), server(t)
 	finder, err := config.Finder()
 	if err != nil {

@@ -58,7 +58,10 @@ func RunPlugin(ctx context.Context, program string, role secure.Role, words []st
 	if err != nil {
 		return err
 	}
-	until, err := read.Check(ctx)
+	until, err := read.Own()
+	if parsed.Has["check"] {
+		until, err = read.Check(ctx)
+	}
 	if err != nil {
 		return err
 	}

@@ -361,6 +361,7 @@ func TestWords(t *testing.T) {
 	set.nodes = []string{"n1 " + port(t), "n2 " + port(t)}
 	set.list()
 	n1 := set.process("n1.json", "tufayon://s1/node/n1", `"node": "n1", "store": "n1.db"`)
+	unknown := set.process("n4.json", "tufayon://s1/node/n1", `"node": "n1", "store": "n4.db", "hooks": "none", "listen": "m..4:7003"`)
 	for _, it := range []struct {
 		words  []string
 		status int
@@ -372,6 +373,8 @@ func TestWords(t *testing.T) {
 		{[]string{set.process("other.json", "tufayon://s1/node/n2", `"node": "n1", "store": "n1.db"`)}, 1,
 			"other.json: certificate: " + set.files("tufayon://s1/node/n2").Certificate + ": the peer is somebody else: tufayon://s1/node/n2, not tufayon://s1/node/n1"},
 		{[]string{set.process("n3.json", "tufayon://s1/node/n1", `"node": "n3", "store": "n1.db"`)}, 1, `n3.json: node: "n3" isn't listed in`},
+		{[]string{"--check", unknown}, 1, unknown + ": listen: "},
+		{[]string{unknown}, 3, "listen tcp: "}, // which passes, as systemd's unit has it
 	} {
 		var output bytes.Buffer
 		err := RunPlugin(context.Background(), "tufayon-node", secure.Node, it.words, &output)

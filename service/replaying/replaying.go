@@ -11,8 +11,8 @@ import (
 	"os/exec"
 )
 
-// mostOutput is how many bytes a picture, or a report, may have.
-const mostOutput = 64 << 20
+// mostOutput is how many bytes a picture, or a report, may have: fewer in a test.
+var mostOutput = 64 << 20
 
 // errLarge says that a picture is larger.
 var errLarge = errors.New("it is too large")

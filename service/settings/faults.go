@@ -273,23 +273,53 @@ func (set *Set) Addresses() map[string]string {
 // Check checks what is outside of the files: that addresses of machines can be looked up, and that the certificate names this process and is valid. It
 // tells until when that is, if there is one.
 func (settings *Settings) Check(ctx context.Context) (until time.Time, err error) {
-	return settings.Process.outside(ctx, settings.File, settings.Name(), settings.addresses())
+	until, err = settings.Own()
+	return until, joined(settings.LookUp(ctx), err)
 }
 
-// outside checks what is outside of the files of a process of this name, which uses these addresses, by their places.
-func (place *Place) outside(ctx context.Context, file string, name secure.Name, addresses map[string]string) (until time.Time, err error) {
-	var faults Faults
-	for at, address := range addresses {
-		host, _, err := net.SplitHostPort(address)
-		if carrying.IsLocal(address) || err != nil || host == "" {
-			continue
-		}
-		looking, cancel := context.WithTimeout(ctx, 5*time.Second)
-		if _, err := net.DefaultResolver.LookupHost(looking, host); err != nil {
-			faults = append(faults, fmt.Sprintf("%s: %v", at, err))
-		}
-		cancel()
+// Own is the part of Check that is this process's: its certificates.
+func (settings *Settings) Own() (until time.Time, err error) {
+	return settings.Process.own(settings.File, settings.Name())
+}
+
+// LookUp is the part of Check that others may mend at any time: the addresses, which are looked up at once. They are told by their places.
+func (settings *Settings) LookUp(ctx context.Context) Faults {
+	return lookUp(ctx, settings.addresses())
+}
+
+const lookUpWithin = 5 * time.Second
+
+// lookUp tells which of these addresses, by their places, can't be looked up.
+func lookUp(ctx context.Context, addresses map[string]string) Faults {
+	ctx, cancel := context.WithTimeout(ctx, lookUpWithin)
+	defer cancel()
+	looked := make(chan error, len(addresses))
+	for place, address := range addresses {
+		go func(place, address string) {
+			host, _, err := net.SplitHostPort(address)
+			if carrying.IsLocal(address) || err != nil || host == "" {
+				looked <- nil
+				return
+			}
+			if _, err = net.DefaultResolver.LookupHost(ctx, host); err != nil {
+				err = fmt.Errorf("%s: %w", place, err)
+			}
+			looked <- err
+		}(place, address)
 	}
+	var faults Faults
+	for range addresses {
+		if err := <-looked; err != nil {
+			faults = append(faults, err.Error())
+		}
+	}
+	sort.Strings(faults)
+	return faults
+}
+
+// own checks the certificates of a process of this name.
+func (place *Place) own(file string, name secure.Name) (until time.Time, err error) {
+	var faults Faults
 	if files := place.Files(); files != nil {
 		if until, err = files.Check(name); err != nil {
 			faults = append(faults, fmt.Sprintf("%s: certificate: %v", file, err))
@@ -301,8 +331,19 @@ func (place *Place) outside(ctx context.Context, file string, name secure.Name, 
 		}
 	}
 	if len(faults) > 0 {
-		sort.Strings(faults)
 		return time.Time{}, faults
 	}
 	return until, nil
+}
+
+// joined are faults and those of an error, if there are any.
+func joined(faults Faults, err error) error {
+	if more, is := err.(Faults); is {
+		faults = append(faults, more...)
+	}
+	if len(faults) == 0 {
+		return nil
+	}
+	sort.Strings(faults)
+	return faults
 }

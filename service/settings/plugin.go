@@ -198,7 +198,13 @@ func (settings *PluginSettings) CertificateName() secure.Name {
 // Check checks what is outside of the files: that the address can be looked up, and that the certificate names this process and is valid. It tells until
 // when that is, if there is one.
 func (settings *PluginSettings) Check(ctx context.Context) (until time.Time, err error) {
-	return settings.Plugin.outside(ctx, settings.File, settings.CertificateName(), settings.listens())
+	until, err = settings.Own()
+	return until, joined(lookUp(ctx, settings.listens()), err)
+}
+
+// Own is the part of Check that is this process's: its certificates.
+func (settings *PluginSettings) Own() (until time.Time, err error) {
+	return settings.Plugin.own(settings.File, settings.CertificateName())
 }
 
 // Others are the keys, of those that count from a start of the process on, whose values are others in another file.

@@ -113,7 +113,7 @@ func TestFaults(t *testing.T) {
 	}
 }
 
-// What is outside of the files: machines that aren't known, and the certificate.
+// What is outside of the files: the certificate.
 func TestCheck(t *testing.T) {
 	authority, folder := securetest.NewAuthority(t), t.TempDir()
 	files := authority.Issue(t, folder, time.Now().Add(time.Hour), "tufayon://s1/orchestrator")
@@ -132,6 +132,58 @@ func TestCheck(t *testing.T) {
 	if _, err := read.Check(context.Background()); err == nil || err.Error() != want {
 		t.Errorf("%v, not %s", err, want)
 	}
+}
+
+// Addresses that can't be looked up are told, each with its place, and so is the certificate; what is this process's own is known without them.
+func TestLookUp(t *testing.T) {
+	authority, folder := securetest.NewAuthority(t), t.TempDir()
+	files := authority.Issue(t, folder, time.Now().Add(time.Hour), "tufayon://s1/orchestrator")
+	its := `"certificate": "` + files.Certificate + `", "key": "` + files.Key + `", "authorities": "` + files.Authorities + `"}`
+	file := write(t, strings.NewReplacer("unix:///run/c.sock", "127.0.0.1:7002", "unix:///run/n2.sock", "m..2:7003").Replace(set),
+		`{"set": "set.json", "store": "o.db", "listen": ":7001", "address": "m..1:7001", `+its)
+	read, err := settings.Read(file)
+	if err != nil {
+		t.Fatal(err)
+	}
+	unknown := []string{file + ": address: ", read.Process.Place.Set + ": nodes[1].address: "}
+	wants := func(faults settings.Faults, places ...string) {
+		t.Helper()
+		if len(faults) != len(places) {
+			t.Fatalf("%v, and not %v", faults, places)
+		}
+		for at, it := range faults {
+			if !strings.HasPrefix(it, places[at]) {
+				t.Errorf("%s isn't %s", it, places[at])
+			}
+		}
+	}
+	wants(read.LookUp(context.Background()), unknown...)
+	if until, err := read.Own(); err != nil || until.IsZero() {
+		t.Errorf("its own: until %v, %v", until, err)
+	}
+	authority.Issue(t, folder, time.Now().Add(-time.Minute), "tufayon://s1/orchestrator")
+	if _, err := read.Own(); err == nil || !strings.HasPrefix(err.Error(), file+": certificate: ") {
+		t.Errorf("its own, which has ended: %v", err)
+	}
+	var faults settings.Faults
+	if _, err := read.Check(context.Background()); !errors.As(err, &faults) {
+		t.Fatal(err)
+	}
+	wants(faults, unknown[0], file+": certificate: ", unknown[1])
+	n1 := authority.Issue(t, t.TempDir(), time.Now().Add(time.Hour), "tufayon://s1/node/n1")
+	file = write(t, strings.Replace(set, "unix:///run/n1.sock", "m..1:7003", 1), `{"set": "set.json", "store": "n1.db", "node": "n1", "certificate": "`+
+		n1.Certificate+`", "key": "`+n1.Key+`", "authorities": "`+n1.Authorities+`"}`)
+	plugin, err := settings.ReadPlugin(file, secure.Node)
+	if err != nil {
+		t.Fatal(err)
+	}
+	if until, err := plugin.Own(); err != nil || until.IsZero() {
+		t.Errorf("a node's own: until %v, %v", until, err)
+	}
+	if _, err := plugin.Check(context.Background()); !errors.As(err, &faults) {
+		t.Fatal(err)
+	}
+	wants(faults, file+": listen: ")
 }
 
 // A certificate as etcd's client is one of its own, which is checked too.

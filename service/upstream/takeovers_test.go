@@ -20,6 +20,9 @@ import (
 
 // Two drivers over etcd before one upstream: where the one that leads is killed, or ends, the other one goes on, and all holds that is drawn above.
 func TestTakeovers(t *testing.T) {
+	if testing.Short() {
+		t.Skip("it takes its time")
+	}
 	box := newBox(t, upstream.Options{})
 	box.etcd = etcdtest.Start(t)
 	count := 1000

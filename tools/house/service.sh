@@ -13,10 +13,16 @@ service_tree() {
 }
 
 # Has Go find packages below $1 and Debian's, and link the library $2. Go's cache is CSI_GOCACHE, or below $1: with the former, who builds the same later
-# has it at once, from whatever folder.
+# has at once what isn't of $1. Where `trimmed` is set, what is built has no folder's name. Else Go's own packages are taken as Debian compiled them, and not
+# anew, which is half of it: they are of no other flags of cgo, so that ours are in a file of the one package that needs them.
 service_environment() {
-    export GO111MODULE=off GOPATH="$1:/usr/share/gocode" GOFLAGS="-p=2 -trimpath" GOCACHE="${CSI_GOCACHE:-$1/cache}"
-    export CGO_CFLAGS="-O2 -I$top/include" CGO_LDFLAGS="$2 $(dirname "$(rt doc)")/c/liblibc_c.a"
+    local needed="$2 $(dirname "$(rt doc)")/c/liblibc_c.a"
+    export GO111MODULE=off GOPATH="$1:/usr/share/gocode" GOFLAGS=-p=2 GOCACHE="${CSI_GOCACHE:-$1/cache}"
+    if [ -n "${trimmed-}" ]; then
+        export GOFLAGS="-p=2 -trimpath" CGO_CFLAGS="-O2 -I$top/include" CGO_LDFLAGS="$needed"
+    else
+        printf '%s\n' 'package plugin' '' "// #cgo CFLAGS: -I$top/include" "// #cgo LDFLAGS: $needed" 'import "C"' > "$1/src/tufayon/service/plugin/linking.go"
+    fi
 }
 
 # Writes to the folder $1 of each program that follows which files of sources it is made of, each with its package: for tools/packaging/parties. It is run in

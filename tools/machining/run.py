@@ -77,6 +77,7 @@ class Run:
     def rest(self):
         """Everything comes to rest; what was answered is so; all programs end; and the records are judged."""
         since = time.monotonic()
+        self.system.until(self.system.all_ready, "each plugin has begun the session")  # one that joined may have no store yet
         volumes = ending.at_rest(self.system)
         self.counts["seconds to rest"] = round(time.monotonic() - since, 1)
         self.tell(f"at rest, {len(volumes)} volumes")

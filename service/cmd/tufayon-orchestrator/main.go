@@ -39,7 +39,10 @@ func run(ctx context.Context, words []string, output io.Writer) error {
 		_, err := output.Write(read.Set.Config())
 		return err
 	}
-	until, err := read.Check(ctx)
+	until, err := read.Own()
+	if parsed.Has["check"] {
+		until, err = read.Check(ctx)
+	}
 	if err != nil {
 		return err
 	}

@@ -61,6 +61,7 @@ func serve(ctx context.Context, read *settings.Settings, log *zap.Logger) error 
 	}
 	defer running.watching.close()
 	running.watching.alive(ctx)
+	go tellUnknown(ctx, read, log)
 	served, end, err := running.listen()
 	if err != nil {
 		return err
@@ -118,6 +119,15 @@ func (running *service) connect() error {
 	}
 	running.carrier = carrying.New(limits, read.Set.Staging, peers.Dial)
 	return running.carrier.Set(read.Set.Addresses())
+}
+
+// tellUnknown tells which addresses can't be looked up now. Nothing ends by that: they are looked up again whenever a plugin is connected to.
+func tellUnknown(ctx context.Context, read *settings.Settings, log *zap.Logger) {
+	for _, fault := range read.LookUp(ctx) {
+		if ctx.Err() == nil {
+			log.Warn("an address isn't known, and is tried again", zap.String("fault", fault))
+		}
+	}
 }
 
 // lead begins the orchestrator's next session over the store, and serves.
