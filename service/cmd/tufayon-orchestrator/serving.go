@@ -70,7 +70,7 @@ func serve(ctx context.Context, read *settings.Settings, log *zap.Logger) error 
 	log.Info("waits for the store", zap.String("address", read.Process.Listen))
 	daemon.Ready("waits for the store")
 	defer daemon.Stopping()
-	kept, err := program.OpenStore(ctx, &read.Process.Place, read.Process.Address)
+	kept, err := running.open(ctx)
 	if err != nil {
 		if ctx.Err() != nil {
 			return nil // it was ended while it waited to lead
@@ -82,6 +82,31 @@ func serve(ctx context.Context, read *settings.Settings, log *zap.Logger) error 
 		err = closed
 	}
 	return err
+}
+
+// open opens the store, once this process leads, and reads the files anew meanwhile at SIGHUP: else it would lead with a list of nodes of before.
+func (running *service) open(ctx context.Context) (store.Store, error) {
+	process := &running.settings.Process
+	var kept store.Store
+	opened := make(chan error, 1)
+	go func() {
+		var err error
+		kept, err = program.OpenStore(ctx, &process.Place, process.Address)
+		opened <- err
+	}()
+	for {
+		select {
+		case <-running.anew:
+			running.asked(ctx)
+		case err := <-opened:
+			select {
+			case <-running.anew:
+				running.asked(ctx)
+			default:
+			}
+			return kept, err
+		}
+	}
 }
 
 // listen has the API served, while this process waits to lead too. It gives what ends that, and what ended it where that wasn't called.
@@ -167,9 +192,7 @@ func (running *service) wait(ctx context.Context, served <-chan error) error {
 	for {
 		select {
 		case <-running.anew:
-			if err := running.readAnew(ctx); err != nil {
-				running.log.Error("all stays as it was", zap.Error(err))
-			}
+			running.asked(ctx)
 		case err := <-served:
 			return err
 		case <-running.host.Done():
@@ -198,8 +221,15 @@ func (running *service) drain() {
 	}
 }
 
-// readAnew reads the files anew. Other addresses and roles count at once, and other nodes are a session of the orchestrator, which refuses to leave out one
-// where a volume may be attached.
+// asked reads the files anew, or tells why it doesn't.
+func (running *service) asked(ctx context.Context) {
+	if err := running.readAnew(ctx); err != nil {
+		running.log.Error("all stays as it was", zap.Error(err))
+	}
+}
+
+// readAnew reads the files anew. Other addresses and roles count at once, and other nodes are a session of the orchestrator that leads, which refuses to leave
+// out one where a volume may be attached.
 func (running *service) readAnew(ctx context.Context) error {
 	read, err := settings.Read(running.settings.File)
 	if err != nil {
@@ -219,7 +249,7 @@ func (running *service) readAnew(ctx context.Context) error {
 	if err := running.carrier.Set(both); err != nil {
 		return err
 	}
-	if !same(read.Set.IDs(), running.host.Nodes()) {
+	if running.host != nil && !same(read.Set.IDs(), running.host.Nodes()) {
 		if _, err := running.host.Begin(ctx, read.Set.IDs(), "the list of nodes is another one"); err != nil {
 			running.carrier.Set(running.settings.Set.Addresses())
 			return settings.Faults{fmt.Sprintf("%s: nodes: %v", read.Process.Place.Set, err)}

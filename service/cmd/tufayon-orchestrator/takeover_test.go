@@ -3,6 +3,8 @@ package main
 import (
 	"context"
 	"fmt"
+	"os"
+	"syscall"
 	"testing"
 	"time"
 
@@ -13,7 +15,7 @@ import (
 	"tufayon/service/etcd/etcdtest"
 )
 
-// Over etcd one service leads and another waits: when the first ends, the second goes on with what is wanted.
+// Over etcd one service leads and another waits: when the first ends, the second goes on with what is wanted, and with the nodes that came meanwhile.
 func TestTakeover(t *testing.T) {
 	ctx, cancel := context.WithTimeout(context.Background(), 6*within)
 	defer cancel()
@@ -36,6 +38,23 @@ func TestTakeover(t *testing.T) {
 	_, err := waiting.Get(ctx, &wire.GetRequest{Name: "v"})
 	if its := status.Convert(err); its.Code() != codes.Unavailable || its.Message() != "this service doesn't lead: "+made.address+" does" {
 		t.Errorf("the second: %v", err)
+	}
+	before, err := client.Nodes(ctx, &wire.NodesRequest{})
+	if err != nil {
+		t.Fatal(err)
+	}
+	made.serve("n2")
+	made.list("n1", "n2")
+	syscall.Kill(os.Getpid(), syscall.SIGHUP) // both hear it
+	for nodes := before; ctx.Err() == nil && nodes.GetSession() <= before.Session; time.Sleep(10 * time.Millisecond) {
+		nodes, _ = client.Nodes(ctx, &wire.NodesRequest{})
+	}
+	if _, err := client.Create(ctx, &wire.CreateRequest{Name: "w", Capabilities: []*wire.Capability{block}, Wait: wire.Wait_AT_REST}); err != nil {
+		t.Fatal(err)
+	}
+	used, err := client.Use(ctx, &wire.UseRequest{Name: "w", Node: "n2", Target: "/a", Capability: block, Wait: wire.Wait_AT_REST})
+	if err != nil || !used.Reached {
+		t.Fatalf("used at the other node: %v, %v", used, err)
 	}
 	if status := stop(); status != 0 {
 		t.Errorf("the first ended with %d", status)
