@@ -20,6 +20,7 @@ use Rattle.csi_world.specs.Public.Recovered.{GivenNode, recovered_rows, Agree, M
 use Rattle.csi_recovery.specs.declared.fault.RecoveryFault.{RecoveryFault}
 use Rattle.csi_recovery.specs.declared.fault.RecoveryFault.TheVariants.{SameNode, NotLater, Disagrees, BadNodes, BadRow, NoMemory}
 use Rattle.csi_recovery.specs.Public.Judged.{IsKeptOf, IsGiven, AreGiven, AreApart, DoAgree, IsLater, AreFit, IsNotFree, IsUnfit, IsRecoveryRefusal}
+use Rattle.csi_recovery.specs.Public.Rebuilding.{AreEarlier}
 use Rattle.csi_recovery.specs.Private.Walks.{passed_on}
 use Rattle.csi_recovery.proofs.Given.{record-among, node-among}
 
@@ -90,6 +91,21 @@ from-later session kept state given known is are later =
     (then-all (λ (k : NodeParts). nat_lt k.session session) given (λ own among.
     let there = node-among given known own are among in
     lt-ltb own.session session (subst (λ (n : ℕ). n < session) (sym there.2.shows.session) (later.after_nodes there.0 there.1))))
+
+-- the tests of the nodes' alone, against the controller's own
+pub earlier-from : (session : ℕ) (kept : controller.RecordParts) (state : ControllerState) (given : List NodeParts) (known : List GivenNode) → session ≡ kept.session → IsKeptOf kept state → AreGiven given known
+    → list_all (λ (k : NodeParts). nat_lt k.session session) given ≡ true → AreEarlier state known
+earlier-from session kept state given known own is are passes = λ node among.
+    let from = record-among given known node are among in
+    subst (λ (n : ℕ). node.state.session < n) (own ∙ is.session)
+    (subst (λ (n : ℕ). n < session) from.2.shows.session (ltb-true from.0.session session (all-then (λ (k : NodeParts). nat_lt k.session session) given passes from.0 from.1)))
+
+pub from-earlier : (session : ℕ) (kept : controller.RecordParts) (state : ControllerState) (given : List NodeParts) (known : List GivenNode) → session ≡ kept.session → IsKeptOf kept state → AreGiven given known
+    → AreEarlier state known → list_all (λ (k : NodeParts). nat_lt k.session session) given ≡ true
+from-earlier session kept state given known own is are earlier =
+    then-all (λ (k : NodeParts). nat_lt k.session session) given (λ one among.
+    let there = node-among given known one are among in
+    lt-ltb one.session session (subst (λ (n : ℕ). one.session < n) (sym (own ∙ is.session)) (subst (λ (n : ℕ). n < state.session) (sym there.2.shows.session) (earlier there.0 there.1))))
 
 -- ---- what is unfit
 

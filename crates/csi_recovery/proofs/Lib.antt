@@ -6,3 +6,4 @@ pub mod Restorable
 pub mod Free
 pub mod Sessions
 pub mod Judged
+pub mod RebuiltStates

@@ -6,6 +6,7 @@ ghost use Rattle.csi_controller.specs.Model.State.{ControllerState};
 ghost use Rattle.csi_node.specs.Model.Record.{parts};
 ghost use Rattle.csi_node.specs.Public.Record.{AreSoundRows};
 ghost use Rattle.csi_world.specs.Public.Recovered.{GivenNode};
+ghost use Rattle.csi_recovery.specs.Public.Rebuilding.{AreLike, IsUnlike};
 ghost use Rattle.csi_recovery.specs.Public.Judged.{IsKeptOf, AreGiven, AreApart, IsFirst, AreFit, IsUnfit};
 
 use crate::agreeing::first_disagreeing;
@@ -67,6 +68,26 @@ pub(crate) fn first_unfit(
         return Some(RecoveryFault::SameNode(place));
     }
     if !is_after(session, controller, given) {
+        return Some(RecoveryFault::NotLater);
+    }
+    match first_disagreeing(controller, given) {
+        Some(place) => Some(RecoveryFault::Disagrees(place)),
+        None => None,
+    }
+}
+
+/// Why these nodes' records don't go with this controller's, which was made of an orchestrator's, if they don't: the first of these that holds.
+/// `SameNode` tells the first record that is of the node of an earlier one; `NotLater` that a node heard of a session that isn't before the
+/// controller's, so that the orchestrator's record is an older one; `Disagrees` the first node at which a volume is staged that isn't held there in
+/// that capability, or is published with another flag. It takes no memory. This profile's own.
+pub fn first_unlike(controller: &ControllerRecord, given: &[NodeRecord]) -> Option<RecoveryFault>
+    ensures { (state : ControllerState) (known : List GivenNode) → IsKeptOf controller.now state → AreGiven given.now known →
+        MatchOption result (AreLike state known) (IsUnlike state known) }
+{
+    if let Some(place) = first_same(given) {
+        return Some(RecoveryFault::SameNode(place));
+    }
+    if !is_after_each(controller.session(), given) {
         return Some(RecoveryFault::NotLater);
     }
     match first_disagreeing(controller, given) {

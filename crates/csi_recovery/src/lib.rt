@@ -7,11 +7,16 @@ mod entries;
 mod fault;
 mod finding;
 mod judging;
+mod rebuilding;
+mod rebuilding_fault;
 mod recovering;
 mod rows;
 mod session;
 mod worked;
 
 pub use fault::RecoveryFault;
+pub use judging::first_unlike;
+pub use rebuilding::rebuilt;
+pub use rebuilding_fault::RebuildingFault;
 pub use recovering::recovered;
 pub use session::{SESSIONS_ABOVE, recovery_session};

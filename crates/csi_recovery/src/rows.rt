@@ -12,8 +12,8 @@ use csi_orchestrator::{Arguments, Goal, Known, NodeEntry, Row};
 use csi_types::{CapabilityList, NoMemory};
 use std::alloc::Global;
 
-// The same capabilities again.
-fn copied_capabilities(list: &CapabilityList) -> Result<CapabilityList, NoMemory>
+/// The same capabilities again.
+pub(crate) fn copied_capabilities(list: &CapabilityList) -> Result<CapabilityList, NoMemory>
     ensures { IfOk result (λ copy. copy ≡ list.now) }
 {
     let copy = list.clone()?;
