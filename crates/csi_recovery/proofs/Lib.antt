@@ -6,3 +6,6 @@ pub mod Restorable
 pub mod Free
 pub mod Sessions
 pub mod Judged
+pub mod OpenedAgain
+pub mod WorldsJudged
+pub mod WorldsRecovered

@@ -7,11 +7,14 @@ mod entries;
 mod fault;
 mod finding;
 mod judging;
+mod opening;
 mod recovering;
 mod rows;
 mod session;
 mod worked;
+mod worlds;
 
 pub use fault::RecoveryFault;
 pub use recovering::recovered;
 pub use session::{SESSIONS_ABOVE, recovery_session};
+pub use worlds::recover_world;

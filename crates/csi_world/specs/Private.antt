@@ -5,3 +5,4 @@ pub mod Listed
 pub mod Laws
 pub mod Worked
 pub mod Telling
+pub mod Recovering

@@ -8,4 +8,5 @@ pub mod Laws
 pub mod Recovered
 pub mod Recovery
 pub mod Outcomes
+pub mod Given
 pub mod Stale
