@@ -16,6 +16,7 @@ from . import (
     pages,
     pictures,
     plugins,
+    power,
     records,
     recoveries,
     recovery_stops,
@@ -39,6 +40,7 @@ SUBJECTS = (
 def all_cases(seed):
     """Every case, the longest first; those that draw at random begin with this number."""
     yield from kills.cases(seed)
+    yield from power.cases(seed)
     yield from joined.cases(seed)
     yield from pictures.cases(seed)
     yield from drawn_recoveries.cases(seed)

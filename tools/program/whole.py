@@ -27,10 +27,26 @@ class Said:
 
 
 def said(session, steps):
-    """Calls one after another, each of a kind and a volume, and how it is built of its number; the first of a volume makes it, if it can."""
-    for n, (kind, volume, build) in enumerate(steps, 1):
+    """Calls one after another, each of a kind and a volume, how it is built of its number, and what refuses it, if it is refused; the first of a volume makes
+    it, if it can."""
+    for n, (kind, volume, build, *refusal) in enumerate(steps, 1):
         made = volume if kind == "CreateVolume" else 0
-        yield Said(build((session, n)), reply(kind, (session, n), 0, made), reply(kind, (session, n), 10, 0, "stale"), volume)
+        status, detail = refusal or (0, "")
+        yield Said(build((session, n)), reply(kind, (session, n), status, made, detail), reply(kind, (session, n), 10, 0, "stale"), volume)
+
+
+def scripted_calls(session, ids):
+    """Two volumes of these ids: one is made, attached, refused elsewhere, detached and deleted, and then the other is made."""
+    one, other = ids
+    steps = [
+        ("CreateVolume", one, lambda n: create(n, "v")),
+        ("ControllerPublishVolume", one, lambda n: attach(n, one, "n1")),
+        ("ControllerPublishVolume", one, lambda n: attach(n, one, "n2"), 9, "n1"),
+        ("ControllerUnpublishVolume", one, lambda n: detach(n, one, "n1")),
+        ("DeleteVolume", one, lambda n: delete(n, one)),
+        ("CreateVolume", other, lambda n: create(n, "w")),
+    ]
+    return list(said(session, steps))
 
 
 def controller_calls(session, ids):
@@ -93,19 +109,34 @@ def parts_beside(box, path, alone=False):
         return []
 
 
+def earlier(plugin, version):
+    """The parts of a store of an earlier version, of which that of a row is left out once it is opened."""
+    if plugin == "controller":
+        dead = stores.volume(1, "v", stores.kept("DeleteVolume", (1, 5)), live=False, version=version)
+        return [stores.controller_head(4, 2, version), dead, stores.volume(3, "w", stores.kept("CreateVolume", (2, 1), 0, 3), version=version)]
+    unstaged = stores.staged(1, None, stores.kept("NodeUnstageVolume", (1, 5)), version=version)
+    return [stores.node_head("n1", 2, version), unstaged, stores.staged(3, block(1), stores.kept("NodeStageVolume", (2, 1)), version=version)]
+
+
 class Whole:
-    """A plugin's calls over a store that is new, used or one whose log is left; the parts after each of them, without a stop."""
+    """A plugin's calls over a store that is new, used, one whose log is left, or one of an earlier version; the parts after each of them, without a stop."""
 
     def __init__(self, box, plugin, over):
         self.box, self.plugin, self.over = box, plugin, over
         self.word = {"controller": "config", "node": "n1"}[plugin]
         box.put("config", CONFIG)
         calls = {"controller": controller_calls, "node": node_calls}[plugin]
-        used = over != "new"
-        self.calls = calls(2 if used else 1, [4, 5] if used else [1, 2])
-        self.pairs = [(it.call, it.right) for it in self.calls]
-        if used:
+        if over == "new":
+            self.calls = calls(1, [1, 2])
+        elif over == "script":
+            self.calls = scripted_calls(1, [1, 2])
+        elif over in ("used", "log"):
+            self.calls = calls(2, [4, 5])
             self.prepare([(it.call, it.right) for it in calls(1, [1, 2, 3])])
+        else:
+            self.calls = calls(3, [4])[:1]
+            stores.make(box.at("before.db"), earlier(plugin, int(over[-1])))
+        self.pairs = [(it.call, it.right) for it in self.calls]
         self.states = self.follow()
 
     def prepare(self, pairs):
@@ -181,7 +212,7 @@ class Whole:
         places = [max(before, it) for it in [answered, *(it for it in ends if it > answered)][:2]]
         allowed = [self.states[it] for it in places]
         if places[0] == 0 and self.head is not None:
-            places, allowed = [*places, 0, 0], [*allowed, [], self.head]
+            places, allowed = [*places, 0], [*allowed, self.head]
         wanted(f"{told}: after {answered} replies the store has the commits of these, or of one group more", found in allowed, True)
         return places[allowed.index(found)], found
 
@@ -210,15 +241,34 @@ class Whole:
             wanted(f"{told}: record of a store without parts gave {shown}", is_known, True)
 
 
+MIDWAY = 5  # how many answers a store is midway behind: the volume is attached, and is to be staged
+
+
+def resumed(talk, count):
+    """The rest of a talk in the next session, where so many of its answers came: a timeout has the call that is due sent again."""
+    goal, kind = talk.due[count - 1]
+    rest = Talk(talk.session + 1, talk.name, talk.volume, wanted=[talk.name])
+    rest.due[0] = (goal, kind)
+    rest.asks(rest.timeout, goal, kind)
+    for step in talk.steps[count:]:
+        step(rest)
+    return rest
+
+
 class WholeTalk(Whole):
     """The same of an orchestrator, and of a volume's life. It begins a session whenever it is run."""
 
     def __init__(self, box, plugin, over):
         self.box, self.plugin, self.over, self.word = box, plugin, over, "config"
         box.put("config", CONFIG)
-        if over != "new":
-            self.prepare(life(1, "w" * 100, 4).pairs)
-        self.talk = life(1 if over == "new" else 2, NAME, 5)
+        if over == "midway":
+            begun = life(1, NAME, 5)
+            self.prepare(begun.pairs[:MIDWAY])
+            self.talk = resumed(begun, MIDWAY)
+        else:
+            if over != "new":
+                self.prepare(life(1, "w" * 100, 4).pairs)
+            self.talk = life(1 if over == "new" else 2, NAME, 5)
         self.pairs = self.talk.pairs
         self.states = self.follow()
 
@@ -236,10 +286,10 @@ class WholeTalk(Whole):
         wanted(f"{told}: the answers", out, self.right()[: len(out)])
         done, found = self.carried_out(told, path, answered, ends)
         self.record(told, path, found)
-        goal, kind = self.talk.due[done - 1] if done else (None, None)
+        goal, kind = self.talk.due[max(done, 1) - 1]
         session = int.from_bytes(found[0][1][2:10], "big") + 1 if found else 1
         rest = Talk(session, NAME, 5, wanted=[NAME] if goal else [])
-        if goal:
+        if goal and done > 1:
             rest.asks(rest.timeout, goal, kind)
         for step in self.talk.steps[max(done, 1) :]:
             step(rest)

@@ -2,10 +2,11 @@
 use crate::file_keep::{FileKeep, Held, opened};
 use crate::image::Image;
 use crate::stop::Stop;
+use csi_sqlite::copies;
 use csi_stores::{Keep, KeepFault, Part};
 use csi_types::NoMemory;
 use sqlite::Files;
-use sqlite_disk::{Disk, Fuse, Memory};
+use sqlite_disk::{Fuse, Memory};
 use std::alloc::Global;
 
 /// A store in SQLite over a log and a database file, each in memory, which stop to answer after so many calls.
@@ -37,20 +38,7 @@ pub enum Opened {
 impl DiskKeep {
     /// A store in files that hold this, all of it synced, and that stop so.
     pub fn open(alloc: Global, image: &Image, stop: Stop) -> Result<Opened, NoMemory> {
-        let mut log = Memory::new(alloc);
-        let mut db = Memory::new(alloc);
-        let Ok(_) = log.write_at(0, &image.log) else {
-            return Err(NoMemory);
-        };
-        let Ok(_) = log.sync() else {
-            return Err(NoMemory);
-        };
-        let Ok(_) = db.write_at(0, &image.db) else {
-            return Err(NoMemory);
-        };
-        let Ok(_) = db.sync() else {
-            return Err(NoMemory);
-        };
+        let Files { log, db } = copies(alloc, &image.db, &image.log)?;
         let files = Files {
             log: Fuse::new(log, stop.log),
             db: Fuse::new(db, stop.db),
@@ -61,13 +49,7 @@ impl DiskKeep {
         }
     }
 
-    /// What the files hold where nobody closes the store.
-    pub fn left(self) -> Result<Image, NoMemory> {
-        let DiskKeep { inner } = self;
-        inner.left()
-    }
-
-    /// What they hold where the store is closed, and whether its log could be put back.
+    /// What the files hold once the store is closed, and whether its log could be put back. A file that stopped is as it was then.
     pub fn closed(self) -> Result<(bool, Image), NoMemory> {
         let DiskKeep { inner } = self;
         inner.closed()
