@@ -6,7 +6,7 @@ use csi_sqlite::copies;
 use csi_stores::{Keep, KeepFault, Part};
 use csi_types::NoMemory;
 use sqlite::Files;
-use sqlite_disk::{Fuse, Memory};
+use sqlite_disk::{Disk, Fuse, Memory};
 use std::alloc::Global;
 
 /// A store in SQLite over a log and a database file, each in memory, which stop to answer after so many calls.
@@ -38,7 +38,13 @@ pub enum Opened {
 impl DiskKeep {
     /// A store in files that hold this, all of it synced, and that stop so.
     pub fn open(alloc: Global, image: &Image, stop: Stop) -> Result<Opened, NoMemory> {
-        let Files { log, db } = copies(alloc, &image.db, &image.log)?;
+        let Files { mut log, mut db } = copies(alloc, &image.db, &image.log)?;
+        let Ok(_) = log.sync() else {
+            return Err(NoMemory);
+        };
+        let Ok(_) = db.sync() else {
+            return Err(NoMemory);
+        };
         let files = Files {
             log: Fuse::new(log, stop.log),
             db: Fuse::new(db, stop.db),
