@@ -5,7 +5,7 @@ use crate::node_list::NodeList;
 use crate::text::{Name, NodeId, Target};
 
 /// Something that happens.
-#[derive(Debug, Drop)]
+#[derive(Drop)]
 pub enum Event {
     /// The orchestrator is asked to create a volume, with a capacity range in bytes.
     Create {

@@ -10,7 +10,7 @@ use crate::reply::Reply;
 use std::marker::Model;
 
 /// A call, or the reply to a call of a kind.
-#[derive(Clone, Debug, PartialEq, Eq, Drop)]
+#[derive(Debug, PartialEq, Eq, Drop)]
 pub enum Body {
     Call(Call),
     Reply(Kind, Reply),
@@ -18,7 +18,7 @@ pub enum Body {
 
 /// A call or a reply, with the number of the call and the plugin that it goes to or comes from. A
 /// contract sees its parts.
-#[derive(Clone, Debug, PartialEq, Eq, Drop)]
+#[derive(Debug, PartialEq, Eq, Drop)]
 pub struct Frame {
     number: Number,
     party: Party,

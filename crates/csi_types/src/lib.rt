@@ -7,7 +7,6 @@ mod call;
 mod capability;
 mod capacity;
 mod config;
-mod copies;
 mod event;
 mod frame;
 mod holding;
