@@ -103,7 +103,7 @@ pub enum OrchRecordFault {
 }
 
 /// What became of a frame that came.
-#[derive(Clone, Debug, PartialEq, Eq, Drop)]
+#[derive(Debug, PartialEq, Eq, Drop)]
 pub enum Heard {
     /// It isn't a reply to an open call. Nothing changed.
     Ignored,
