@@ -105,7 +105,7 @@ fn spelled(alloc: Global, config: &Config, events: Vec<Event>) -> Result<Vec<Eve
     ensures { IfOk result (λ told. told.items ≡ spelled_out config.now events.items) }
 {
     if has_settling(&events) {
-        told_one_by_one(alloc, config, &events)
+        told_one_by_one(alloc, config, events)
     } else {
         Ok(events)
     }

@@ -33,20 +33,21 @@ fn tell(
     system: &mut System,
     bytes: &mut Vec<u8>,
     told: &mut Vec<Event>,
-    event: &Event,
+    event: Event,
 ) -> Result<(), NoMemory>
-    ensures at { (world : World) → IsAt (world_parts system.old) world → OnOk result (IsAt (world_parts system.new) (occurs world event.now).world) }
-    ensures told { (world : World) → IsAt (world_parts system.old) world → OnOk result (told.new.items ≡ told.old.items ++ spelled world event.now) }
+    ensures at { (world : World) → IsAt (world_parts system.old) world → OnOk result (IsAt (world_parts system.new) (occurs world event).world) }
+    ensures told { (world : World) → IsAt (world_parts system.old) world → OnOk result (told.new.items ≡ told.old.items ++ spelled world event) }
 {
     match event {
         Event::Settle(name) => {
             let first = system.frames.len() as u64;
-            let count = system.go_to_rest(bytes, name)?;
-            tell_settling(told, name, first, count)
+            let count = system.go_to_rest(bytes, &name)?;
+            tell_settling(told, &name, first, count)
         }
         event => {
-            told.push(event.clone()?)?;
-            system.occur(bytes, event)
+            system.occur(bytes, &event)?;
+            told.push(event)?;
+            Ok(())
         }
     }
 }
@@ -56,10 +57,10 @@ fn tell(
 pub fn told_one_by_one(
     alloc: Global,
     config: &Config,
-    events: &[Event],
+    events: Vec<Event>,
 ) -> Result<Vec<Event>, NoMemory>
-    ensures told { IfOk result (λ told. told.items ≡ spelled_out config.now events.now) }
-    ensures world { IfOk result (λ told. (after config.now told.items).world ≡ (after config.now events.now).world) }
+    ensures told { IfOk result (λ told. told.items ≡ spelled_out config.now events.items) }
+    ensures world { IfOk result (λ told. (after config.now told.items).world ≡ (after config.now events.items).world) }
 {
     let mut system = new_system(alloc, config)?;
     let mut bytes = Vec::new(alloc);
