@@ -1,4 +1,5 @@
 """Devices that fail: a full disk at each write of DB and of its log, a closed or full output, an input that can't be read."""
+import collections
 import os
 import re
 import resource
@@ -223,7 +224,8 @@ def can_trace(box):
 
 
 def counted(calls):
-    return {name: calls.count(name) for name in sorted(set(calls))}
+    """How many there are of each."""
+    return dict(sorted(collections.Counter(calls).items()))
 
 
 def at_each(box, plugin, over, sizes):
@@ -250,6 +252,29 @@ def at_each(box, plugin, over, sizes):
             wanted(f"{inject}: it is told", ran.status, 3)
 
 
+def each_read(box, plugin, over, sizes):
+    """Each read of the store fails, one a run, or all from there on."""
+    can_trace(box)
+    whole = whole_of(box, plugin, over)
+    ends = whole.ends(sizes)
+
+    def run(inject=()):
+        """A run whose reads of these two files alone are traced."""
+        path = whole.fresh("db")
+        before = [need("strace"), "-o", box.at("trace"), "-P", box.at(path), "-P", box.at(f"{path}-wal"), "-e", "trace=read,pread64", *inject]
+        ran = box.run(plugin, path, whole.word, given=whole.pieces(ends), before=before)
+        return ran, counted(it.decode() for it in re.findall(rb"^(\w+)\(", box.get("trace"), re.MULTILINE))
+
+    ran, counts = run()
+    wanted("the run that is traced", ran, ended(0, out=whole.right()))
+    wanted(f"{counts}: whether it reads its store", sum(counts.values()) > 2, True)
+    for name, count in counts.items():
+        for at in range(1, count + 1):
+            inject = f"{name}:error=EIO:when={at}{'+' if at % 2 else ''}"
+            ran, _ = run(("-e", f"inject={inject}"))
+            judged(whole, inject, "db", ran, ends)
+
+
 def cases():
     rows = [("full", output, to_full), ("a pipe that nobody reads", output, lambda: {"stdout": closed_pipe()}), ("closed", output, to_closed)]
     yield from of_rows("output", rows)
@@ -262,4 +287,6 @@ def cases():
         for over, ways in WAYS.items():
             rows = [("a limit", by_limit, plugin, over)]
             rows += [(f"at each call, {how}", at_each, plugin, over, sizes) for how, sizes in ways.items()]
+            if over == "log":
+                rows.append(("at each read", each_read, plugin, over, TOGETHER))
             yield from of_rows(f"full disk: {plugin} over a store that is {over}", rows)

@@ -3,7 +3,6 @@ mod failing;
 mod growths;
 mod script;
 mod sessions;
-mod stops;
 
 use crate::devices::{Devices, SOUND, new_store, reader, writer};
 use csi_endings::Ending;
@@ -171,43 +170,27 @@ fn is_front(rt: &(impl Abort + AllocGlobal), (session, from): Start, written: &[
     is_front
 }
 
-// How many of these lines, of which so many bytes are read at a time, were answered with the line behind so many, and how many were before it: all that one
-// read brings are committed together.
-fn group_of(given: &[u8], most: usize, answered: usize) -> (usize, usize) {
-    let mut before = 0usize;
+// How many of these lines were read, so many bytes at a time, once the line behind so many was: all that one read brings are committed together.
+fn read_with(given: &[u8], most: usize, answered: usize) -> usize {
     let mut read = 0usize;
     for _ in 0..given.len() {
         read = read.saturating_add(most).min(given.len());
-        let after = count(given.get(..read).unwrap_or(given));
-        if after > answered {
-            return (before, after);
+        let lines = count(given.get(..read).unwrap_or(given));
+        if lines > answered {
+            return lines;
         }
-        before = after;
     }
-    (before, before)
+    count(given)
 }
 
-// How many lines left their mark, either so many or so many, where a device stopped a session that was given these lines, so many bytes at a time, and
-// had written this: all that were read together, or none of them. Where one of them was answered, all are there.
-fn marked(given: &[u8], most: usize, written: &[u8]) -> (usize, usize) {
-    let said = count(written);
-    if said == 0 {
-        return (0, 0);
-    }
-    let answered = said.saturating_sub(1);
-    let (before, after) = group_of(given, most, answered);
-    let least = if before == answered { before } else { after };
-    (least, after)
-}
-
-// Whether such a session that was stopped once this was written left what was there, if it said nothing, or what so many or so many lines came to; and
-// whether the life goes on from there.
+// Whether such a session that was stopped once this was written left what was there, if it said nothing, or what so many lines came to; and whether the
+// life goes on from there.
 fn goes_on<K: Keep>(
     rt: &(impl Abort + AllocGlobal),
     keep: &mut K,
     start: Start,
     written: &[u8],
-    (least, most): (usize, usize),
+    lines: usize,
 ) -> bool {
     let (session, from) = start;
     let before = session.saturating_sub(1);
@@ -217,13 +200,8 @@ fn goes_on<K: Keep>(
     if written.is_empty() && has_after(rt, keep, before, (from, 0)) {
         return lives(rt, keep, start);
     }
-    for lines in [least, most] {
-        let state = state_after(kept(from), lines);
-        if has_after(rt, keep, session, state) {
-            return lives(rt, keep, (session.saturating_add(1), state.0));
-        }
-    }
-    false
+    let state = state_after(kept(from), lines);
+    has_after(rt, keep, session, state) && lives(rt, keep, (session.saturating_add(1), state.0))
 }
 
 // From nothing; and then once more, in session 2, where the name is free again.

@@ -13,14 +13,17 @@ pub(crate) const CONTROLLER_HEAD: &[u8] = &[3, 0, 0, 0, 0, 0, 0, 0, 0, 1, 0, 0, 
 
 pub(crate) const NODE_HEAD: &[u8] = &[3, 1, 2, 110, 49, 0, 0, 0, 0, 0, 0, 0, 0];
 
-// A part, put in; or, where it has no value, taken out. Where memory is refused it is made the second time.
-fn part(rt: &(impl Abort + AllocGlobal), key: u64, value: &[u8]) -> Part {
-    if value.is_empty() {
+/// A key, and its value; none where it is taken out.
+pub(crate) type Change = (u64, Option<&'static [u8]>);
+
+/// A part that puts this in, or takes it out. Where memory is refused it is made the second time.
+pub(crate) fn part(rt: &(impl Abort + AllocGlobal), (key, value): Change) -> Part {
+    let Some(bytes) = value else {
         return Part { key, value: None };
-    }
-    let copied = match Vec::from_slice(rt.alloc(), value) {
+    };
+    let copied = match Vec::from_slice(rt.alloc(), bytes) {
         Ok(copied) => copied,
-        Err(_) => Vec::from_slice(rt.alloc(), value).expect(rt, "memory"),
+        Err(_) => Vec::from_slice(rt.alloc(), bytes).expect(rt, "memory"),
     };
     Part {
         key,
@@ -28,12 +31,30 @@ fn part(rt: &(impl Abort + AllocGlobal), key: u64, value: &[u8]) -> Part {
     }
 }
 
+/// Whether it is the same part.
+pub(crate) fn is_part(found: &Part, wanted: Change) -> bool {
+    let is_value = match (&found.value, wanted.1) {
+        (Some(found), Some(wanted)) => found.as_slice() == wanted,
+        _ => false,
+    };
+    found.key == wanted.0 && is_value
+}
+
+// The part of this key is put in; or, where it has no value, taken out.
+fn change(key: u64, value: &'static [u8]) -> Change {
+    if value.is_empty() {
+        (key, None)
+    } else {
+        (key, Some(value))
+    }
+}
+
 /// Puts this in the place of what a store has. Where memory is refused it has that still, and is asked again.
 pub(crate) fn puts<K: Keep>(rt: &(impl Abort + AllocGlobal), keep: &mut K, content: Content) {
     let parts = [
-        part(rt, 0, content.0),
-        part(rt, 1, content.1),
-        part(rt, 2, content.2),
+        part(rt, change(0, content.0)),
+        part(rt, change(1, content.1)),
+        part(rt, change(2, content.2)),
     ];
     if let Err(fault) = keep.commit(&parts) {
         assert!(rt; fault == KeepFault::NoMemory);
@@ -42,27 +63,20 @@ pub(crate) fn puts<K: Keep>(rt: &(impl Abort + AllocGlobal), keep: &mut K, conte
     drop(parts);
 }
 
-// Whether the first of the parts is this one, if there is to be one; and the parts behind it.
-fn behind<'a>(parts: &'a [Part], key: u64, value: &[u8]) -> Option<&'a [Part]> {
-    if value.is_empty() {
-        return Some(parts);
-    }
-    let (first, rest) = parts.split_first()?;
-    match &first.value {
-        Some(bytes) if first.key == key && bytes.as_slice() == value => Some(rest),
-        _ => None,
-    }
-}
-
 // Whether these are the parts.
 fn are_parts(parts: &[Part], content: Content) -> bool {
-    let Some(rows) = behind(parts, 0, content.0) else {
-        return false;
-    };
-    let Some(others) = behind(rows, 1, content.1) else {
-        return false;
-    };
-    matches!(behind(others, 2, content.2), Some([]))
+    let mut place = 0usize;
+    for (key, value) in [(0u64, content.0), (1, content.1), (2, content.2)] {
+        if value.is_empty() {
+            continue;
+        }
+        match parts.get(place) {
+            Some(found) if is_part(found, (key, Some(value))) => {}
+            _ => return false,
+        }
+        place = place.saturating_add(1);
+    }
+    place == parts.len()
 }
 
 /// Whether a store has this. Where memory is refused it is asked again.

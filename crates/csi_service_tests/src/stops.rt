@@ -11,8 +11,8 @@ use std::process::Abort;
 
 const DEVICE: ServeFaultKind = ServeFaultKind::Keep(KeepFault::Device);
 
-// The store in files that hold this, with no stop.
-fn opened(rt: &(impl Abort + AllocGlobal), image: &Image) -> DiskKeep {
+/// The store in files that hold this, with no stop.
+pub(crate) fn opened(rt: &(impl Abort + AllocGlobal), image: &Image) -> DiskKeep {
     match DiskKeep::open(rt.alloc(), image, NO_STOP) {
         Ok(Opened::Open(keep)) => keep,
         _ => panic!(rt; "a store"),
@@ -41,12 +41,12 @@ struct Run {
     image: Image,
 }
 
-// Serves the turn, which is read so, over such files that stop so; then the store is closed, or isn't.
+// Serves the turn, which is read so, over such files that stop so; then the store is closed, by which a file that stopped doesn't change any more.
 fn stopped(
     rt: &(impl Abort + AllocGlobal),
     image: &Image,
     (turn, (most, _, _)): (&Turn, Cut),
-    (stop, is_closed): (Stop, bool),
+    stop: Stop,
 ) -> Run {
     let mut keep = match DiskKeep::open(rt.alloc(), image, stop).expect(rt, "memory") {
         Opened::Open(keep) => keep,
@@ -61,11 +61,7 @@ fn stopped(
     let end = take(rt, &mut keep, turn, (0, most));
     let is_served = end == End::Served(turn.steps.len());
     assert!(rt; (keep.faults() == 0) == is_served);
-    let (is_put_back, image) = if is_closed {
-        keep.closed().expect(rt, "memory")
-    } else {
-        (true, keep.left().expect(rt, "memory"))
-    };
+    let (is_put_back, image) = keep.closed().expect(rt, "memory");
     Run {
         end,
         is_whole: is_put_back && is_served,
@@ -127,14 +123,14 @@ fn stage(end: End) -> usize {
 fn runs(
     rt: &(impl Abort + AllocGlobal),
     (image, turn): (&Image, (&Turn, Cut)),
-    how: (Stop, bool),
+    stop: Stop,
     far: &mut usize,
 ) -> bool {
     let Run {
         end,
         is_whole,
         image: left,
-    } = stopped(rt, image, turn, how);
+    } = stopped(rt, image, turn, stop);
     assert!(rt; goes_on(rt, &left, turn, end) && stage(end) >= *far);
     drop(left);
     *far = stage(end);
@@ -144,8 +140,7 @@ fn runs(
 // More calls than a run makes.
 const MANY: u64 = 1000;
 
-// Serves the turn with so many calls of a file let through, from none on, until a run ends with no stop; and from then on closes the store, until that
-// ends with no stop; whether it did.
+// Serves the turn with so many calls of a file let through, from none on, until a run ends with no stop; whether one did.
 fn ends(
     rt: &(impl Abort + AllocGlobal),
     turn: (&Turn, Cut),
@@ -154,13 +149,9 @@ fn ends(
 ) -> bool {
     let image = image_before(rt, turn.0);
     let mut far = 0;
-    let mut is_served = false;
     for calls in 0..MANY {
         let stop = stopping.after(calls, power_fails);
-        if !is_served {
-            is_served = runs(rt, (&image, turn), (stop, false), &mut far);
-        }
-        if is_served && runs(rt, (&image, turn), (stop, true), &mut far) {
+        if runs(rt, (&image, turn), stop, &mut far) {
             return true;
         }
     }
@@ -197,21 +188,6 @@ fn stops_leave_one_session_or_the_next(rt: HostRuntime) {
     }
 }
 
-// How many calls of a file are answered before it stops: few are in the opening, most in commits or between.
-const COUNTS: &[u64] = &[0, 5, 13, 34];
-
-#[test]
-fn a_store_that_stopped_may_be_closed(rt: HostRuntime) {
-    let image = image_before(&rt, SCRIPT);
-    for calls in COUNTS {
-        for power_fails in [false, true] {
-            let stop = Stopping::Log.after(*calls, power_fails);
-            let _is_whole = runs(&rt, (&image, (SCRIPT, AT_ONCE)), (stop, true), &mut 0);
-        }
-    }
-    drop(image);
-}
-
 // With no stop everything is answered, and a store that is closed needs no log.
 #[test]
 fn sqlite_keep_works_with_no_stop(rt: HostRuntime) {
@@ -220,7 +196,7 @@ fn sqlite_keep_works_with_no_stop(rt: HostRuntime) {
         end,
         is_whole,
         image: left,
-    } = stopped(&rt, &image, (SCRIPT, AT_ONCE), (NO_STOP, true));
+    } = stopped(&rt, &image, (SCRIPT, AT_ONCE), NO_STOP);
     let alone = left.without_log(rt.alloc());
     assert!(&rt; is_whole && goes_on(&rt, &alone, (SCRIPT, AT_ONCE), end));
     drop((image, alone));

@@ -2,6 +2,7 @@
 use crate::file_keep::{FileKeep, Held, opened};
 use crate::image::Image;
 use crate::stop::Stop;
+use csi_sqlite::copies;
 use csi_stores::{Keep, KeepFault, Part};
 use csi_types::NoMemory;
 use sqlite::Files;
@@ -37,15 +38,8 @@ pub enum Opened {
 impl DiskKeep {
     /// A store in files that hold this, all of it synced, and that stop so.
     pub fn open(alloc: Global, image: &Image, stop: Stop) -> Result<Opened, NoMemory> {
-        let mut log = Memory::new(alloc);
-        let mut db = Memory::new(alloc);
-        let Ok(_) = log.write_at(0, &image.log) else {
-            return Err(NoMemory);
-        };
+        let Files { mut log, mut db } = copies(alloc, &image.db, &image.log)?;
         let Ok(_) = log.sync() else {
-            return Err(NoMemory);
-        };
-        let Ok(_) = db.write_at(0, &image.db) else {
             return Err(NoMemory);
         };
         let Ok(_) = db.sync() else {
@@ -61,13 +55,7 @@ impl DiskKeep {
         }
     }
 
-    /// What the files hold where nobody closes the store.
-    pub fn left(self) -> Result<Image, NoMemory> {
-        let DiskKeep { inner } = self;
-        inner.left()
-    }
-
-    /// What they hold where the store is closed, and whether its log could be put back.
+    /// What the files hold once the store is closed, and whether its log could be put back. A file that stopped is as it was then.
     pub fn closed(self) -> Result<(bool, Image), NoMemory> {
         let DiskKeep { inner } = self;
         inner.closed()

@@ -56,9 +56,29 @@ fn kept<S: Alter + Drop>(alloc: Global, connection: Connection<S>) -> Result<Sql
     }
 }
 
-// The database of a store that nobody closes.
-fn database_of<S: Alter + Drop>(keep: SqliteKeep<S>) -> S {
-    keep.into_connection().into_store()
+// The same of a database in files: this call costs what ten others do, so it stands alone.
+fn kept_files<D: Disk + Drop>(
+    alloc: Global,
+    connection: Connection<FileStore<D>>,
+) -> Result<SqliteKeep<FileStore<D>>, Files<D>> {
+    match kept(alloc, connection) {
+        Ok(keep) => Ok(keep),
+        Err(database) => Err(database.close()),
+    }
+}
+
+// The store in these files, or else the files.
+fn opened_files<D: Disk + Drop>(
+    alloc: Global,
+    files: Files<D>,
+) -> Result<SqliteKeep<FileStore<D>>, Files<D>>
+    requires log { IsTrue (D.Disk.is_usable files.log) }
+    requires db { IsTrue (D.Disk.is_usable files.db) }
+{
+    match Connection::open_files(alloc, files, Options::new(1)) {
+        Ok(connection) => kept_files(alloc, connection),
+        Err((_, left)) => Err(left.into_files()),
+    }
 }
 
 /// The store in these files, none of which failed a sync, or else what they hold then.
@@ -70,42 +90,34 @@ pub(crate) fn opened<D: Held + Drop>(
     requires log { IsTrue (D.Disk.is_usable files.log) }
     requires db { IsTrue (D.Disk.is_usable files.db) }
 {
-    let connection = match Connection::open_files(alloc, files, Options::new(1)) {
-        Ok(connection) => connection,
-        Err((_, left)) => return Ok(Err(image_of(alloc, left.into_files(), power_fails)?)),
-    };
-    match kept(alloc, connection) {
+    match opened_files(alloc, files) {
         Ok(inner) => Ok(Ok(FileKeep {
             alloc,
             power_fails,
             inner,
         })),
-        Err(database) => Ok(Err(image_of(alloc, database.close(), power_fails)?)),
+        Err(files) => Ok(Err(image_of(alloc, files, power_fails)?)),
+    }
+}
+
+// The files of a store that is closed, and whether its log could be put back.
+fn closed_files<D: Disk + Drop>(keep: SqliteKeep<FileStore<D>>) -> (bool, Files<D>) {
+    match keep.close_files() {
+        Ok(files) => (true, files),
+        Err((_, store)) => (false, store.close()),
     }
 }
 
 impl<D: Held + Drop> FileKeep<D> {
-    /// What the files hold where nobody closes the store.
-    pub(crate) fn left(self) -> Result<Image, NoMemory> {
-        let FileKeep {
-            alloc,
-            power_fails,
-            inner,
-        } = self;
-        image_of(alloc, database_of(inner).close(), power_fails)
-    }
-
-    /// What they hold where the store is closed, and whether its log could be put back.
+    /// What the files hold once the store is closed, and whether its log could be put back.
     pub(crate) fn closed(self) -> Result<(bool, Image), NoMemory> {
         let FileKeep {
             alloc,
             power_fails,
             inner,
         } = self;
-        match inner.close_files() {
-            Ok(files) => Ok((true, image_of(alloc, files, power_fails)?)),
-            Err((_, store)) => Ok((false, image_of(alloc, store.close(), power_fails)?)),
-        }
+        let (is_put_back, files) = closed_files(inner);
+        Ok((is_put_back, image_of(alloc, files, power_fails)?))
     }
 }
 

@@ -1,7 +1,7 @@
 //! The orchestrator's program over a store, a reader and a writer of which one fails at one call, at each in turn: how it ends, what is written and
 //! kept, and that the life goes on from there.
 use super::script::{Side, WHOLE, lines};
-use super::{answers, count, goes_on, group_of, has_after, lives, puts};
+use super::{answers, count, goes_on, has_after, lives, puts, read_with};
 use crate::devices::{Devices, SOUND, new_store, room};
 use csi_endings::Ending;
 use csi_stores::Left;
@@ -59,12 +59,12 @@ fn run(rt: &(impl Abort + AllocGlobal), devices: Devices, is_ahead: bool) -> (us
     let (session, steps) = match said {
         0 if is_ahead => (1, 0),
         0 => (0, 0),
-        _ if is_ahead => (1, group_of(&given, devices.most, answered).1),
+        _ if is_ahead => (1, read_with(&given, devices.most, answered)),
         _ => (1, answered),
     };
     drop(given);
     assert!(rt; has_after(rt, &mut keep, session, (steps, 0)));
-    assert!(rt; goes_on(rt, &mut keep, (1, 0), &written, (steps, steps)));
+    assert!(rt; goes_on(rt, &mut keep, (1, 0), &written, steps));
     drop((keep, written));
     assert!(rt; ending == Ending::Device || ending == Ending::Done);
     (said, ending == Ending::Device)

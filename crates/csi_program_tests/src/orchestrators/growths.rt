@@ -19,7 +19,7 @@ fn lives_on(rt: &(impl Abort + AllocGlobal), start: Start) -> bool {
     let is_so = match ending {
         Ending::Memory => {
             let answered = count(&written).saturating_sub(1);
-            goes_on(rt, &mut keep, start, &written, (answered, answered))
+            goes_on(rt, &mut keep, start, &written, answered)
         }
         _ => ending == Ending::Done && is_whole(rt, &mut keep, start, &written),
     };

@@ -1,11 +1,10 @@
 //! Stores of parts, in memory and in SQLite: what is committed is there, also where the store is opened again; what doesn't fit, or isn't done,
 //! isn't. Two tests bear a refusal at any allocation (`tools/refusals`): a commit that sees one leaves what was there, and is done then.
-use csi_stores::{Keep, KeepFault, MemoryKeep, Part};
-use csi_test_disks::{DiskKeep, Image, NO_STOP, Opened, TableKeep};
+use crate::contents::{Change, is_part, part};
+use crate::stops::opened;
+use csi_service::{Keep, KeepFault, MemoryKeep, Part};
+use csi_test_disks::{Image, TableKeep};
 use std::process::Abort;
-
-// A key, and its value; none where it is taken out.
-type Change = (u64, Option<&'static [u8]>);
 
 // What is there, what is committed at once, and what is there then.
 type Commit = (&'static [Change], &'static [Change], &'static [Change]);
@@ -32,21 +31,6 @@ const COMMITS: &[Commit] = &[
     ),
 ];
 
-// A part that puts this in, or takes it out. Where memory is refused it is made the second time.
-fn part(rt: &(impl Abort + AllocGlobal), (key, value): Change) -> Part {
-    let Some(bytes) = value else {
-        return Part { key, value: None };
-    };
-    let copied = match Vec::from_slice(rt.alloc(), bytes) {
-        Ok(copied) => copied,
-        Err(_) => Vec::from_slice(rt.alloc(), bytes).expect(rt, "memory"),
-    };
-    Part {
-        key,
-        value: Some(copied),
-    }
-}
-
 // Parts that do this.
 fn parts(rt: &(impl Abort + AllocGlobal), changes: &[Change]) -> Vec<Part> {
     let count = changes.len();
@@ -58,15 +42,6 @@ fn parts(rt: &(impl Abort + AllocGlobal), changes: &[Change]) -> Vec<Part> {
         parts.push(part(rt, *change)).expect(rt, "room");
     }
     parts
-}
-
-// Whether it is the same part.
-fn is_part(found: &Part, wanted: Change) -> bool {
-    let is_value = match (&found.value, wanted.1) {
-        (Some(found), Some(wanted)) => found.as_slice() == wanted,
-        _ => false,
-    };
-    found.key == wanted.0 && is_value
 }
 
 // Whether the store has these parts.
@@ -145,26 +120,16 @@ fn a_table_that_is_taken_anew_has_what_it_had(rt: HostRuntime) {
     drop(again);
 }
 
-// The store in files that hold this.
-fn opened(rt: &(impl Abort + AllocGlobal), image: &Image) -> DiskKeep {
-    match DiskKeep::open(rt.alloc(), image, NO_STOP) {
-        Ok(Opened::Open(keep)) => keep,
-        _ => panic!(rt; "a store"),
-    }
-}
-
+// A store that is closed needs no log.
 #[test]
 fn files_keep_what_is_committed(rt: HostRuntime) {
     let mut keep = opened(&rt, &Image::new(rt.alloc()));
     assert!(&rt; keeps(&rt, &mut keep));
-    let left = keep.left().expect(&rt, "memory");
-    let mut again = opened(&rt, &left);
-    assert!(&rt; has(&mut again, LAST));
-    let (is_put_back, closed) = again.closed().expect(&rt, "memory");
+    let (is_put_back, closed) = keep.closed().expect(&rt, "memory");
     let alone = closed.without_log(rt.alloc());
-    let mut once_more = opened(&rt, &alone);
-    assert!(&rt; is_put_back && has(&mut once_more, LAST));
-    drop((left, alone, once_more));
+    let mut again = opened(&rt, &alone);
+    assert!(&rt; is_put_back && has(&mut again, LAST));
+    drop((alone, again));
 }
 
 // What a connection is in the middle of, by which it is refused.
