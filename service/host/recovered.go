@@ -19,3 +19,11 @@ func RecoveredSides(session uint64, given, lost []string) []store.Side {
 	}
 	return made.sides()
 }
+
+// RebuiltSides are the sides of the record of an orchestrator whose controller's store was lost and is made anew: the controller has heard of the session,
+// and of nothing that was sent.
+func RebuiltSides(session uint64) []store.Side {
+	made := &peers{of: map[string]*peer{}, changed: map[string]bool{}}
+	made.begins(carrying.Controller, session)
+	return made.sides()
+}

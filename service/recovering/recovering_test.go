@@ -47,7 +47,7 @@ func (set *set) open(name string) store.Store {
 	set.t.Helper()
 	var kept store.Store
 	var err error
-	if config := set.etcd; len(config.Endpoints) > 0 && (name == "controller" || name == "new") {
+	if config := set.etcd; len(config.Endpoints) > 0 && (name == "controller" || name == "new" || name == "rebuilt") {
 		config.Prefix = "/t/" + name
 		waiting, cancel := context.WithTimeout(ctx, 30*time.Second)
 		defer cancel()

@@ -17,6 +17,8 @@ from . import (
     pictures,
     plugins,
     power,
+    rebuilding_stops,
+    rebuildings,
     records,
     recoveries,
     recovery_stops,
@@ -32,7 +34,7 @@ from . import (
 
 # Those that draw nothing, the longest first.
 SUBJECTS = (
-    *(recovery_stops, refused_recoveries, devices, faults, streams, full, opening, largest, groups, worlds, records, rows, plugins, orchestrators, changes, configs),
+    *(recovery_stops, rebuilding_stops, refused_recoveries, devices, faults, streams, full, opening, largest, groups, worlds, records, rows, plugins, orchestrators, changes, configs),
     *(recoveries, schedules, words, help, shown, pages, script),
 )
 
@@ -44,5 +46,6 @@ def all_cases(seed):
     yield from joined.cases(seed)
     yield from pictures.cases(seed)
     yield from drawn_recoveries.cases(seed)
+    yield from rebuildings.cases(seed)
     for subject in SUBJECTS:
         yield from subject.cases()

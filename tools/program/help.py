@@ -12,6 +12,7 @@ TOP = os.path.dirname(os.path.dirname(HERE))
 ASKS = "$ csi-replay "
 WORDS = {**{name: "FILE" for name in ON_FILES}, "controller": "DB CONFIG", "node": "DB ID [SESSION]", "orchestrator": "DB CONFIG [SESSION]", "record": "DB"}
 WORDS["recover"] = "NEW.db CONFIG SESSION CONTROLLER.db NODE.db.."
+WORDS["recover-controller"] = "NEW.db CONFIG NEXT ORCHESTRATOR.db NODE.db.."
 
 
 def texts():
@@ -93,7 +94,7 @@ def completions(box):
     prepare(box)
     rows = [
         (("",), [*TAKEN, "--help", "--version"]),
-        (("re",), ["record", "recover"]),
+        (("re",), ["record", "recover", "recover-controller"]),
         (("--",), ["--help", "--version"]),
         (("show", "-"), ["--help"]),
         (("show", "con"), ["config"]),
@@ -110,6 +111,9 @@ def completions(box):
         (("recover", "db", "config", "con"), []),
         (("recover", "db", "config", "0", "con"), ["config"]),
         (("recover", "db", "config", "0", "f", "f", "f", "con"), ["config"]),
+        (("recover-controller", "db", "con"), ["config"]),
+        (("recover-controller", "db", "config", "con"), []),
+        (("recover-controller", "db", "config", "9", "con"), ["config"]),
     ]
     for words, right in rows:
         asked = [need("bash"), "-c", COMPLETING, f"{TOP}/tools/csi-replay.bash", "csi-replay", *words]

@@ -22,17 +22,37 @@ ENDS = ("", "-wal", "-shm", "-journal")
 SECONDS, FULL_ROOM = 30, 1024 * MB  # beside two proofs it took 1.6 to 2.1 s; and 550 MB, 8 for each store
 
 
-class Cut:
-    """A set in a box that is recovered again and again, each time over what it was at first; a run may be cut off."""
+class Stopped:
+    """A set in a box of which stores are made again and again, each time over what it was at first; a run may be cut off. `commits`: how many it has."""
+
+    commits = 1
+
+    def __init__(self, box, it):
+        self.box, self.it = box, it
+        self.found = {name: box.get(name) for name in box.names()}
+        self.before, self.made = it.parts(), it.recovery().made()
+        self.names = (NEW, *it.names)
+
+    def fresh(self):
+        for name in self.names:
+            for end in ENDS:
+                if os.path.exists(path := self.box.at(name + end)):
+                    os.remove(path)
+        for name, content in self.found.items():
+            self.box.put(name, content)
+
+
+class Cut(Stopped):
+    """A set that is recovered."""
+
+    commits = 4
 
     def __init__(self, box, over):
         can_recover(box)
         self.box, self.it = box, Set.made(box, CONTROLLER_PARTS, [N1, N2], LISTED)
         if over == "logs":
             self.leave_logs()
-        self.found = {name: box.get(name) for name in box.names()}
-        self.before, self.made = self.it.parts(), self.it.recovery().made()
-        self.names = (NEW, *self.it.names)
+        super().__init__(box, self.it)
 
     def leave_logs(self):
         """The plugins' stores are as kills leave them: a file, and a log that has the last commit."""
@@ -45,14 +65,6 @@ class Cut:
             running = self.box.start(*words)
             running.asks(call, reply)
             running.kill()
-
-    def fresh(self):
-        for name in self.names:
-            for end in ENDS:
-                if os.path.exists(path := self.box.at(name + end)):
-                    os.remove(path)
-        for name, content in self.found.items():
-            self.box.put(name, content)
 
     def judge(self, told, ran):
         """What is left of a run: how many of its commits are done; and the rest is done by one run more."""
@@ -92,21 +104,28 @@ def whole_run(cut):
 
 def killed(box, over):
     """At each call; over logs that kills left, at each third."""
-    cut = Cut(box, over)
+    kill(Cut(box, over), 1 if over == "closed" else 3)
+
+
+def kill(cut, step):
     seen = set()
     for name, count in whole_run(cut).items():
-        for at in range(1, count + 1, 1 if over == "closed" else 3):
+        for at in range(1, count + 1, step):
             cut.fresh()
             inject = f"{name}:signal=KILL:when={at}"
             ran, _ = strace(cut, inject)
             wanted(f"{inject}: it was killed", ran.status, -signal.SIGKILL)
             seen.add(cut.judge(inject, ran))
-    wanted(f"{seen}: after how many commits it was killed, so whether after none, some and all", {0, 4} < seen, True)
+    wanted(f"{seen}: after how many commits it was killed, so whether after none, and all", {0, cut.commits} <= seen, True)
 
 
 def failing(box):
+    fail(Cut(box, "closed"))
+
+
+def fail(cut):
     """No room is left at a call, or the device is gone; or, at every other one, from there on."""
-    cut, seen = Cut(box, "closed"), set()
+    seen = set()
     for name, count in whole_run(cut).items():
         for at in range(1, count + 1 if name in WRITING else 0):
             cut.fresh()
@@ -115,15 +134,18 @@ def failing(box):
             is_told = (ran.status, ran.error) in [(it.status, it.error) for it in (DEVICE, NOT_OPENED)]
             wanted(f"{inject}: {ran}, so whether it is told", is_told and ran.out in (b"", cut.made.line), True)
             seen.add(cut.judge(inject, ran))
-    wanted(f"{seen}: after how many commits it failed, so whether after none, some and all", {0, 4} < seen, True)
+    wanted(f"{seen}: after how many commits it failed, so whether after none, and all", {0, cut.commits} <= seen, True)
 
 
 def by_limit(box):
+    limit_files(Cut(box, "closed"))
+
+
+def limit_files(cut):
     """A limit on the size of files."""
-    cut = Cut(box, "closed")
     for size in [0, 31, *range(4095, 40_000, 2060)]:
         cut.fresh()
-        ran = box.run(*cut.it.words(), preexec_fn=limited(size))
+        ran = cut.box.run(*cut.it.words(), preexec_fn=limited(size))
         if ran != ended(0, out=cut.made.line):
             is_told = (ran.status, ran.error) in [(it.status, it.error) for it in (DEVICE, NOT_OPENED)]
             wanted(f"files of {size} bytes: {ran}, so whether it is told", is_told, True)
@@ -131,21 +153,27 @@ def by_limit(box):
 
 
 def output(box):
+    lose_output(Cut(box, "closed"))
+
+
+def lose_output(cut):
     """Where its line can't be written all is done."""
-    cut = Cut(box, "closed")
     with open("/dev/full", "wb") as to:
-        ran = box.run(*cut.it.words(), stdout=to)
+        ran = cut.box.run(*cut.it.words(), stdout=to)
     wanted("its end", ran, DEVICE)
-    wanted("how many commits are done", cut.judge("without output", ran), 4)
+    wanted("how many commits are done", cut.judge("without output", ran), cut.commits)
 
 
 def little_memory(box):
+    take_memory(Cut(box, "closed"))
+
+
+def take_memory(cut):
     """At each limit at which it starts and has too little it says so."""
-    cut = Cut(box, "closed")
 
     def run(limit):
         cut.fresh()
-        return box.run(*cut.it.words(), preexec_fn=with_memory(limit))
+        return cut.box.run(*cut.it.words(), preexec_fn=with_memory(limit))
 
     low, least = 0, 64 * MB
     whole = ended(0, out=cut.made.line)
@@ -153,15 +181,15 @@ def little_memory(box):
     while least - low > STEP:
         middle = (low + least) // (2 * STEP) * STEP
         low, least = (low, middle) if run(middle) == whole else (middle, least)
-    told, seen = 0, set()
+    told = 0
     for limit in range(least - NEAR * STEP, least, 2 * STEP):
         ran = run(limit)
-        if ran == whole or box.run("--help", preexec_fn=with_memory(limit)).status not in (0, 3):
+        if ran == whole or cut.box.run("--help", preexec_fn=with_memory(limit)).status not in (0, 3):
             continue
         if ran.status != -signal.SIGSEGV:
             wanted(f"{limit // 1024} kilobytes", ran, MEMORY)
             told += 1
-        seen.add(cut.judge(f"{limit // 1024} kilobytes", ran))
+        cut.judge(f"{limit // 1024} kilobytes", ran)
     wanted(f"how many of the limits are told, {told}", told > 0, True)
 
 
@@ -188,9 +216,14 @@ def full_set(box):
 
 
 def at_full_size(box):
-    """4,096 volumes and 64 nodes' stores take at most so many seconds, beside other cases, and so much memory."""
     can_recover(box)
-    it = full_set(box)
+    in_time(full_set(box))
+    ran = box.run("orchestrator", NEW, "config")
+    wanted("the orchestrator then", (ran.status, ran.out), (0, b'{"session":1048584,"wanted":[]}\n'))
+
+
+def in_time(it):
+    """4,096 volumes and 64 nodes' stores take at most so many seconds, beside other cases, and so much memory."""
     made = it.recovery().made()
     since = time.monotonic()
     ran = it.run(preexec_fn=with_memory(FULL_ROOM))
@@ -199,8 +232,6 @@ def at_full_size(box):
     it.is_whole(made, "full size")
     most = resource.getrusage(resource.RUSAGE_CHILDREN).ru_maxrss
     wanted(f"it took {seconds:.2f} s and at most {most} kilobytes; so whether that is at most {SECONDS} s", seconds <= SECONDS, True)
-    ran = box.run("orchestrator", NEW, "config")
-    wanted("the orchestrator then", (ran.status, ran.out), (0, b'{"session":1048584,"wanted":[]}\n'))
 
 
 def cases():

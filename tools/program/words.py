@@ -5,7 +5,7 @@ from .frames import create
 from .running import as_nobody, ended, of_rows, wanted
 
 ON_FILES = ("answer", "show", "run", "frames", "draw")
-TAKEN = {**{name: (1,) for name in ON_FILES}, "controller": (2,), "node": (2, 3), "orchestrator": (2, 3), "record": (1,), "recover": (4, 5)}
+TAKEN = {**{name: (1,) for name in ON_FILES}, "controller": (2,), "node": (2, 3), "orchestrator": (2, 3), "record": (1,), "recover": (4, 5), "recover-controller": (4, 5)}
 USAGE = ended(2, "usage")
 
 

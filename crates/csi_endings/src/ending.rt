@@ -33,6 +33,8 @@ pub enum Ending {
     StoresDisagree(u64),
     /// The store that is to be made has parts.
     StoreNotNew,
+    /// The next id that is asked for isn't above each that is known.
+    IdTaken,
     /// The node's store is of an earlier session than that of its joining: it is a lost node's.
     EarlierSession,
     /// The line of this number, from 1, is too long.
@@ -67,7 +69,7 @@ impl Ending {
             Ending::FrameFault(..) | Ending::ScheduleFault(_) | Ending::NotUtf8 => 1,
             Ending::ConfigRefused | Ending::RecordFault(_) | Ending::StoreFault(..) => 1,
             Ending::StoresDisagree(_) | Ending::StoreNotNew | Ending::EarlierSession => 1,
-            Ending::LineFault(_) | Ending::NumbersSpent => 1,
+            Ending::LineFault(_) | Ending::NumbersSpent | Ending::IdTaken => 1,
             Ending::NodeInUse | Ending::OlderStore => 1,
             Ending::Usage => 2,
             Ending::Device | Ending::StoreNotOpened | Ending::Endless | Ending::Memory => 3,
@@ -156,6 +158,7 @@ impl fmt::Display for Ending {
                 "csi-replay: stores disagree, store {store}"
             ),
             Ending::StoreNotNew => write!(f, "csi-replay: store not new"),
+            Ending::IdTaken => write!(f, "csi-replay: id taken"),
             Ending::EarlierSession => write!(f, "csi-replay: store of an earlier session"),
             Ending::LineFault(number) => write!(f, "csi-replay: line fault at {number}"),
             Ending::NumbersSpent => write!(f, "csi-replay: numbers spent"),

@@ -9,3 +9,4 @@ pub mod Refusing
 pub mod MadePlans
 pub mod CarryingOut
 pub mod RecoveredStores
+pub mod RebuiltStores

@@ -1,2 +1,3 @@
+pub mod Rebuilding
 pub mod Recording
 pub mod Recovering

@@ -4,5 +4,6 @@ pub mod Service
 pub mod Serving
 pub mod Running
 pub mod Joined
+pub mod Rebuilding
 pub mod Recording
 pub mod Recovering

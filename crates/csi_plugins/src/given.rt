@@ -3,13 +3,17 @@ ghost use Rattle.std.specs.Prelude.{◌≡◌, ◌∷◌, ◌++◌, [], map, IfO
 ghost use Rattle.std.specs.List.{AllZip};
 ghost use Rattle.csi_service.specs.Public.Opening.{controller_records};
 ghost use Rattle.csi_service.specs.Public.Renewed.{any_node_records};
+ghost use Rattle.csi_plugins.specs.Public.Rebuilding.{orchestrator_records};
 ghost use Rattle.csi_plugins.specs.Public.Recovering.{IsUnchanged};
+ghost use Rattle.csi_plugins.specs.Private.Rebuilding.{HasReadRecord};
 ghost use Rattle.csi_plugins.specs.Private.Recovering.{ending_at as ended_at, ending_of_new as ended_new, changes_of, HasRead, IsNotRead, HaveRead, IsOneNotRead, IsNew, IsNotNew};
 
 use crate::ending::ending_of_store;
 use csi_controller::ControllerRecord;
 use csi_endings::Ending;
 use csi_node::NodeRecord;
+use csi_orchestrator::OrchestratorRecord;
+use csi_records::{Record, Stored};
 use csi_service::{Keep, KeepFault, Part, Renewed, renewed_controller, renewed_node};
 use csi_types::NoMemory;
 use std::alloc::Global;
@@ -47,6 +51,25 @@ pub(crate) fn controller_in<K: Keep>(
     };
     match renewed_controller(alloc, &parts) {
         Ok(read) => Ok(read),
+        Err(stop) => Err(ending_at(KeepFault::from(stop), 1)),
+    }
+}
+
+/// The orchestrator's record.
+pub(crate) fn orchestrator_in<K: Keep>(
+    alloc: Global,
+    keep: &mut K,
+) -> Result<OrchestratorRecord, Ending>
+    ensures read { IfOk result (λ kept. HasReadRecord orchestrator_records (K.store keep.old) (K.store keep.new) kept) }
+    ensures refused { IfErr result (IsNotRead orchestrator_records (K.store keep.old) (K.store keep.new) 1) }
+    ensures unchanged { IsUnchanged (K.store keep.old) (K.store keep.new) }
+{
+    let parts = match keep.load() {
+        Ok(parts) => parts,
+        Err(fault) => return Err(ending_at(fault, 1)),
+    };
+    match OrchestratorRecord::of_parts(alloc, &parts) {
+        Ok(Stored { kept, .. }) => Ok(kept),
         Err(stop) => Err(ending_at(KeepFault::from(stop), 1)),
     }
 }

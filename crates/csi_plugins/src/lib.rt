@@ -7,14 +7,17 @@ mod joined;
 mod judging;
 mod kind;
 mod planning;
+mod rebuilding;
 mod recording;
 mod recovering;
+mod rejudging;
 mod running;
 mod service;
 
 pub use ending::ending_unopened;
 pub use joined::{memory_runs_law, runs_law, three_runs_law};
 pub use kind::{Plugin, asked_session};
+pub use rebuilding::rebuild;
 pub use recording::record;
 pub use recovering::{Recovery, recover};
 pub use running::plugin;

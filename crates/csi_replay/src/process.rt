@@ -1,6 +1,6 @@
 //! What a process does that was started with some words.
 use crate::pictures::Pictures;
-use crate::recovery::{Paths, recover_at};
+use crate::recovery::{rebuild_at, recover_at};
 use crate::stores::{serve_controller, serve_node, serve_orchestrator, tell};
 use csi_commands::stream;
 use csi_endings::{Ending, FileCommand};
@@ -39,22 +39,8 @@ fn carry_out(rt: &HostRuntime, line: CommandLine<'_>) -> Ending {
             session,
         } => serve_orchestrator(rt, store, config, session),
         CommandLine::Record(store) => tell(rt, store),
-        CommandLine::Recover {
-            new,
-            config,
-            session,
-            controller,
-            nodes,
-        } => recover_at(
-            rt,
-            config,
-            session,
-            &Paths {
-                new,
-                controller,
-                nodes,
-            },
-        ),
+        CommandLine::Recover(words) => recover_at(rt, &words),
+        CommandLine::RecoverController(words) => rebuild_at(rt, &words),
     }
 }
 

@@ -62,8 +62,8 @@ fn serve_from(rt: &HostRuntime, path: &str, asked: Asked) -> Ending {
     }
 }
 
-// The controller plugin under the configuration in this file.
-fn controller_of(rt: &(impl Files + AllocGlobal), path: &str) -> Result<Plugin, Ending> {
+/// The controller plugin under the configuration in this file.
+pub(crate) fn controller_of(rt: &(impl Files + AllocGlobal), path: &str) -> Result<Plugin, Ending> {
     match fs::read(rt, path) {
         Ok(input) => Plugin::of_config(rt.alloc(), input.as_slice()),
         Err(error) => Err(Ending::of_device(error.kind())),

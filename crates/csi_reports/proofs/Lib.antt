@@ -6,3 +6,4 @@ pub mod OneOrder
 pub mod OneReport
 pub mod OneLine
 pub mod LostNodes
+mod Attachments

@@ -8,5 +8,6 @@ pub mod Report
 pub mod Goals
 pub mod ByName
 pub mod OrchestratorRecords
+pub mod Rebuildings
 pub mod Recoveries
 pub mod Responses

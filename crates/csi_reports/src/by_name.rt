@@ -1,7 +1,7 @@
 //! Volumes of an orchestrator in the order of their names.
 ghost use Rattle.std.specs.Prelude.{◌≡◌, map, IfOk};
 ghost use Rattle.csi_orchestrator.specs.Public.Shown.{row_shown};
-ghost use Rattle.csi_reports.specs.Public.ByName.{name_place, row_place, wanted_names};
+ghost use Rattle.csi_reports.specs.Public.ByName.{creating_names, name_place, row_place, wanted_names};
 ghost use Rattle.csi_reports.specs.Public.Order.{IsInPlace};
 
 use crate::order::{Placed, put_in_place};
@@ -52,6 +52,19 @@ fn lent_names(alloc: Global, rows: &[Row]) -> Result<Vec<&Name>, AllocError>
     Ok(lent)
 }
 
+// The names of which no id is known, as their rows stand.
+fn lent_creating(alloc: Global, rows: &[Row]) -> Result<Vec<&Name>, AllocError>
+    ensures { IfOk result (λ lent. map (λ name. name.now) lent.items ≡ creating_names (map row_shown rows.now)) }
+{
+    let mut lent = Vec::new(alloc);
+    for row in rows {
+        if row.id.is_none() {
+            lent.push(&row.name)?;
+        }
+    }
+    Ok(lent)
+}
+
 /// The rows by name.
 pub(crate) fn rows_by_name(alloc: Global, rows: &[Row]) -> Result<Vec<&Row>, AllocError>
     ensures { IfOk result (λ lent. IsInPlace row_place (map row_shown rows.now) (map (λ row. row_shown row.now) lent.items)) }
@@ -66,6 +79,15 @@ pub(crate) fn wanted_by_name(alloc: Global, rows: &[Row]) -> Result<Vec<&Name>, 
     ensures { IfOk result (λ lent. IsInPlace name_place (wanted_names (map row_shown rows.now)) (map (λ name. name.now) lent.items)) }
 {
     let mut lent = lent_names(alloc, rows)?;
+    put_in_place(&mut lent);
+    Ok(lent)
+}
+
+/// The names of which no id is known, in order.
+pub(crate) fn creating_by_name(alloc: Global, rows: &[Row]) -> Result<Vec<&Name>, AllocError>
+    ensures { IfOk result (λ lent. IsInPlace name_place (creating_names (map row_shown rows.now)) (map (λ name. name.now) lent.items)) }
+{
+    let mut lent = lent_creating(alloc, rows)?;
     put_in_place(&mut lent);
     Ok(lent)
 }

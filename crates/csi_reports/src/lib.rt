@@ -14,6 +14,7 @@ mod members;
 mod orchestrator_records;
 mod order;
 mod outcomes;
+mod rebuildings;
 mod records;
 mod recoveries;
 mod responses;
@@ -27,6 +28,7 @@ pub use lists::{attached, published, staged};
 pub use live_volumes::write_volumes;
 pub use members::put_array;
 pub use orchestrator_records::orchestrator_line;
+pub use rebuildings::rebuilding_line;
 pub use records::{controller_line, node_line};
 pub use recoveries::recovery_line;
 pub use responses::{

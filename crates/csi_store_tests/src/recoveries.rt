@@ -117,8 +117,8 @@ fn node_ids(rt: &(impl Abort + AllocGlobal), texts: &[&str]) -> Vec<NodeId> {
     nodes
 }
 
-// These nodes' records.
-fn node_records(rt: &(impl Abort + AllocGlobal), given: &[&[u8]]) -> Vec<NodeRecord> {
+/// These nodes' records.
+pub(crate) fn node_records(rt: &(impl Abort + AllocGlobal), given: &[&[u8]]) -> Vec<NodeRecord> {
     let mut records = Vec::with_capacity(rt.alloc(), given.len()).expect(rt, "memory");
     for bytes in given {
         let record = read_record::<NodeRecord>(rt.alloc(), bytes).expect(rt, "a record");

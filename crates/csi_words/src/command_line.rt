@@ -12,9 +12,12 @@ ghost use Rattle.csi_words.specs.Public.Words.{
   on_session,
   on_stores,
   controller_in,
+  made_of_by,
+  made_of_in,
   node_in,
   orchestrator_in,
   record_in,
+  recover_controller_in,
   recover_in,
   texts_of,
   on_file_in,
@@ -60,15 +63,25 @@ pub enum CommandLine<'a> {
     },
     /// `record DB`: the path of the store.
     Record(&'a str),
-    /// `recover NEW.db CONFIG SESSION CONTROLLER.db NODE.db..`: the path of the store that is made, that of the file of the configuration, the greatest
-    /// session that is known, of which nothing is asked yet, and the paths of the controller's store and of the nodes'.
-    Recover {
-        new: &'a str,
-        config: &'a str,
-        session: &'a str,
-        controller: &'a str,
-        nodes: Vec<&'a str>,
-    },
+    /// `recover NEW.db CONFIG SESSION CONTROLLER.db NODE.db..`.
+    Recover(MadeOf<'a>),
+    /// `recover-controller NEW.db CONFIG NEXT ORCHESTRATOR.db NODE.db..`.
+    RecoverController(MadeOf<'a>),
+}
+
+/// The words of a command that makes a store of others.
+#[derive(Debug, Drop)]
+pub struct MadeOf<'a> {
+    /// The path of the store that is made.
+    pub new: &'a str,
+    /// That of the file of the configuration.
+    pub config: &'a str,
+    /// The greatest session that is known, or the next id, of which nothing is asked yet.
+    pub number: &'a str,
+    /// The path of the controller's store, or of the orchestrator's.
+    pub kept: &'a str,
+    /// Those of the nodes'.
+    pub nodes: Vec<&'a str>,
 }
 
 // A command of this name, which takes one word.
@@ -113,20 +126,26 @@ fn session_command<'a>(
     with_second.arg(session)
 }
 
-// The command that makes an orchestrator's store of the plugins' stores: a word for each, and any number of words more.
-fn recover_command<'a>(alloc: Global) -> Result<Command<'a>, AllocError>
-    ensures { IfOk result (IsAddedAs on_recover.top) }
+// A command of this name, which makes a store of others: the store that is made, a configuration, a number, the store of which most is known, and
+// any number of nodes'; the third and the fourth word are called so.
+fn recover_command<'a>(
+    alloc: Global,
+    name: &'a str,
+    number: &'a str,
+    store: &'a str,
+) -> Result<Command<'a>, AllocError>
+    ensures { IfOk result (IsAddedAs (on_recover name.entry.now number.entry.now store.entry.now).top) }
 {
     let new = Arg::new(alloc, "NEW").required(true);
-    let with_new = Command::new(alloc, "recover").arg(new)?;
+    let with_new = Command::new(alloc, name).arg(new)?;
     let config = Arg::new(alloc, "CONFIG").required(true);
     let with_config = with_new.arg(config)?;
-    let session = Arg::new(alloc, "SESSION").required(true);
-    let with_session = with_config.arg(session)?;
-    let controller = Arg::new(alloc, "CONTROLLER").required(true);
-    let with_controller = with_session.arg(controller)?;
+    let number_word = Arg::new(alloc, number).required(true);
+    let with_number = with_config.arg(number_word)?;
+    let store_word = Arg::new(alloc, store).required(true);
+    let with_store = with_number.arg(store_word)?;
     let nodes = Arg::new(alloc, "NODE").action(ArgAction::Append);
-    with_controller.arg(nodes)
+    with_store.arg(nodes)
 }
 
 // The program with this command more, if there was memory to make it.
@@ -177,7 +196,14 @@ fn with_all_commands<'a>(alloc: Global) -> Result<Command<'a>, AllocError>
     ensures { IfOk result (λ command. app_of command ≡ all_words) }
 {
     let stores = with_store_commands(alloc)?;
-    with_command(stores, recover_command(alloc))
+    let with_one = with_command(
+        stores,
+        recover_command(alloc, "recover", "SESSION", "CONTROLLER"),
+    )?;
+    with_command(
+        with_one,
+        recover_command(alloc, "recover-controller", "NEXT", "ORCHESTRATOR"),
+    )
 }
 
 // What the words mean to `clap`.
@@ -277,12 +303,14 @@ fn texts<'a>(alloc: Global, matches: &ArgMatches<'a>, id: &str) -> Result<Vec<&'
     }
 }
 
-// The store that is made, and those that it is made of.
-fn recover<'a>(
+// The store that is made, and those that it is made of; the third and the fourth word are called so.
+fn made_of<'a>(
     alloc: Global,
     matches: &ArgMatches<'a>,
-) -> Result<Option<CommandLine<'a>>, AllocError>
-    ensures { IfOk result (λ line. option_map named_by line ≡ recover_in (rows_of (found_of matches.now))) }
+    number: &str,
+    store: &str,
+) -> Result<Option<MadeOf<'a>>, AllocError>
+    ensures { IfOk result (λ found. option_map made_of_by found ≡ made_of_in number.now store.now (rows_of (found_of matches.now))) }
 {
     let nodes = texts(alloc, matches, "NODE")?;
     let Some(new) = word(matches, "NEW") else {
@@ -291,19 +319,45 @@ fn recover<'a>(
     let Some(config) = word(matches, "CONFIG") else {
         return Ok(None);
     };
-    let Some(session) = word(matches, "SESSION") else {
+    let Some(number) = word(matches, number) else {
         return Ok(None);
     };
-    let Some(controller) = word(matches, "CONTROLLER") else {
+    let Some(kept) = word(matches, store) else {
         return Ok(None);
     };
-    Ok(Some(CommandLine::Recover {
+    Ok(Some(MadeOf {
         new,
         config,
-        session,
-        controller,
+        number,
+        kept,
         nodes,
     }))
+}
+
+// The recovery of an orchestrator's store.
+fn recover<'a>(
+    alloc: Global,
+    matches: &ArgMatches<'a>,
+) -> Result<Option<CommandLine<'a>>, AllocError>
+    ensures { IfOk result (λ line. option_map named_by line ≡ recover_in (rows_of (found_of matches.now))) }
+{
+    match made_of(alloc, matches, "SESSION", "CONTROLLER")? {
+        Some(words) => Ok(Some(CommandLine::Recover(words))),
+        None => Ok(None),
+    }
+}
+
+// That of a controller's.
+fn recover_controller<'a>(
+    alloc: Global,
+    matches: &ArgMatches<'a>,
+) -> Result<Option<CommandLine<'a>>, AllocError>
+    ensures { IfOk result (λ line. option_map named_by line ≡ recover_controller_in (rows_of (found_of matches.now))) }
+{
+    match made_of(alloc, matches, "NEXT", "ORCHESTRATOR")? {
+        Some(words) => Ok(Some(CommandLine::RecoverController(words))),
+        None => Ok(None),
+    }
 }
 
 // The command of this name, with its words, where they are few.
@@ -334,6 +388,7 @@ fn any_command_of<'a>(
 {
     match name {
         "recover" => recover(alloc, matches),
+        "recover-controller" => recover_controller(alloc, matches),
         _ => Ok(command_of(name, matches)),
     }
 }

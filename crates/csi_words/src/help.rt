@@ -29,6 +29,8 @@ pub enum Help {
     Record,
     /// `recover NEW.db CONFIG SESSION CONTROLLER.db NODE.db..`.
     Recover,
+    /// `recover-controller NEW.db CONFIG NEXT ORCHESTRATOR.db NODE.db..`.
+    RecoverController,
 }
 
 // The help that this word alone asks for.
@@ -57,6 +59,7 @@ fn help_on(name: &str) -> Option<Help>
         "orchestrator" => Some(Help::Orchestrator),
         "record" => Some(Help::Record),
         "recover" => Some(Help::Recover),
+        "recover-controller" => Some(Help::RecoverController),
         _ => None,
     }
 }

@@ -6,6 +6,6 @@ mod giving;
 mod help;
 mod texts;
 
-pub use command_line::{CommandLine, parse};
+pub use command_line::{CommandLine, MadeOf, parse};
 pub use giving::give_text;
 pub use help::Help;

@@ -21,6 +21,8 @@ Subcommands:
   record DB               print what a store has
   recover NEW.db CONFIG SESSION CONTROLLER.db NODE.db..  make a lost
                           orchestrator's store
+  recover-controller NEW.db CONFIG NEXT ORCHESTRATOR.db NODE.db..  make a lost
+                          controller's store
 
 FILE is read, and may be /dev/stdin. DB is a store, a SQLite file. CONFIG is a
 file of JSON. A word that begins with - stands behind --.
@@ -199,6 +201,30 @@ Example: csi-replay recover new.db config 7 volumes.db n1.db n2.db
 More: csi-replay --help
 ";
 
+const RECOVER_CONTROLLER: &str = "\
+Usage: csi-replay recover-controller NEW.db CONFIG NEXT ORCHESTRATOR.db NODE.db..
+
+Makes the store of a new controller, where the old one's is lost, of what the
+orchestrator's store has, and prints what it made as one line of JSON. Everything
+is stopped, and no other store is changed. Every call that was ever sent to the
+controller is stale then. The old one must never come back.
+
+  NEW.db           the store that is made, a SQLite file, missing or without
+                   parts
+  CONFIG           a file of JSON, the controller's
+  NEXT             the next id: above each that the lost controller gave, as one
+                   more than the greatest that the storage has
+  ORCHESTRATOR.db  the orchestrator's store, and no older copy of it
+  NODE.db          a node's store, which is only held against it; none has to be
+                   given
+
+What only the lost controller knew is left over at the storage.
+
+Example: csi-replay recover-controller new.db config 9 o.db n1.db n2.db
+
+More: csi-replay --help
+";
+
 impl Help {
     /// The text, with a newline at its end. This profile's own.
     pub fn text(self) -> &'static str {
@@ -215,6 +241,7 @@ impl Help {
             Help::Orchestrator => ORCHESTRATOR,
             Help::Record => RECORD,
             Help::Recover => RECOVER,
+            Help::RecoverController => RECOVER_CONTROLLER,
         }
     }
 }

@@ -47,8 +47,8 @@ func run(ctx context.Context, words []string) error {
 		fmt.Printf("csi-driver %s\n", version.Number)
 		return nil
 	}
-	if len(words) > 0 && words[0] == "recover" {
-		return recoverStore(ctx, words[1:], os.Stdout)
+	if len(words) > 0 && (words[0] == "recover" || words[0] == "recover-controller") {
+		return recoverStore(ctx, words[0] == "recover-controller", words[1:], os.Stdout)
 	}
 	options, err := parse(words)
 	if err != nil {

@@ -27,7 +27,8 @@ import (
 
 var errUsage = errors.New("usage: csi-driver controller [OPTION..] DB CONFIG, " +
 	"csi-driver controller --etcd ENDPOINTS --prefix P [OPTION..] CONFIG, csi-driver node [OPTION..] DB ID [SESSION], " +
-	"or csi-driver recover [OPTION..] NEW CONFIG SESSION CONTROLLER [NODE..]")
+	"csi-driver recover [OPTION..] NEW CONFIG SESSION CONTROLLER [NODE..], " +
+	"or csi-driver recover-controller [OPTION..] NEW CONFIG NEXT ORCHESTRATOR [NODE..]")
 
 // options are the words of a command line.
 type options struct {

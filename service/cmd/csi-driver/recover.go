@@ -17,29 +17,33 @@ import (
 	"tufayon/service/store"
 )
 
-// recovery are the words of csi-driver recover: where the stores are.
+// recovery are the words of csi-driver recover, or of recover-controller: where the stores are.
 type recovery struct {
-	config          string // the file of CONFIG
-	known           uint64
-	etcd            etcd.Config // of the controller's store, without a prefix where that is a file
-	newPrefix       string      // of the new one, likewise
-	new, controller string
-	nodes           []string
+	program   string      // csi-replay, of recover-controller
+	config    string      // the file of CONFIG
+	number    uint64      // SESSION, or NEXT
+	etcd      etcd.Config // of the store that is kept, the controller's or the orchestrator's, without a prefix where that is a file
+	newPrefix string      // of the new one, likewise
+	new, kept string
+	nodes     []string
 }
 
 // isRefused says whether a recovery was refused, and nothing was changed.
 func isRefused(err error) bool {
 	return errors.Is(err, recovering.ErrNotNew) || errors.Is(err, plugin.NodeInUse) || errors.Is(err, plugin.SameNode) ||
-		errors.Is(err, plugin.Disagrees) || errors.Is(err, plugin.BadRow) || errors.Is(err, plugin.NotLater)
+		errors.Is(err, plugin.Disagrees) || errors.Is(err, plugin.BadRow) || errors.Is(err, plugin.NotLater) || errors.As(err, new(recovering.Refusal))
 }
 
-func parseRecovery(words []string) (*recovery, error) {
+func parseRecovery(ofController bool, words []string) (*recovery, error) {
 	it := &recovery{}
 	flags := flag.NewFlagSet("csi-driver", flag.ContinueOnError)
 	flags.SetOutput(io.Discard)
 	endpoints := ""
 	addEtcd(flags, &endpoints, &it.etcd)
 	flags.StringVar(&it.newPrefix, "new-prefix", "", "what the keys of the new store begin with in etcd")
+	if ofController {
+		flags.StringVar(&it.program, "program", "csi-replay", "csi-replay")
+	}
 	if err := flags.Parse(words); err != nil {
 		return nil, fmt.Errorf("%w (%v)", errUsage, err)
 	}
@@ -58,7 +62,7 @@ func parseRecovery(words []string) (*recovery, error) {
 	return it, nil
 }
 
-// words takes what stands behind the options: NEW, unless that is in etcd, CONFIG, SESSION, CONTROLLER, unless that is, and each NODE.
+// words takes what stands behind the options: NEW, unless that is in etcd, CONFIG, the number, the store that is kept, unless that is, and each NODE.
 func (it *recovery) words(words []string) (ok bool) {
 	next := func() (word string) {
 		if len(words) > 0 {
@@ -72,11 +76,11 @@ func (it *recovery) words(words []string) (ok bool) {
 		}
 	}
 	it.config = next()
-	if it.known, ok = numbers.Decimal(next()); !ok || it.config == "" {
+	if it.number, ok = numbers.Decimal(next()); !ok || it.config == "" {
 		return false
 	}
 	if it.etcd.Prefix == "" {
-		if it.controller = next(); it.controller == "" {
+		if it.kept = next(); it.kept == "" {
 			return false
 		}
 	}
@@ -84,9 +88,9 @@ func (it *recovery) words(words []string) (ok bool) {
 	return true
 }
 
-// recoverStore makes the store of an orchestrator that lost its own, and tells what was made.
-func recoverStore(ctx context.Context, words []string, to io.Writer) error {
-	it, err := parseRecovery(words)
+// recoverStore makes the store of an orchestrator that lost its own, or of a controller that did, and tells what was made.
+func recoverStore(ctx context.Context, ofController bool, words []string, to io.Writer) error {
+	it, err := parseRecovery(ofController, words)
 	if err != nil {
 		return err
 	}
@@ -98,37 +102,58 @@ func recoverStore(ctx context.Context, words []string, to io.Writer) error {
 		return err
 	}
 	opened := &opened{}
-	told, err := it.run(ctx, config, opened)
+	run := it.recover
+	if ofController {
+		run = it.rebuild
+	}
+	line, err := run(ctx, config, opened)
 	if closed := opened.close(); err == nil {
 		err = closed
 	}
 	if err != nil {
 		return err
 	}
-	if _, err := to.Write(lines.Recovered(told.Lost, told.Session, told.Volumes, told.Wanted)); err != nil {
+	if _, err := to.Write(line); err != nil {
 		return fmt.Errorf("device: %w", err)
 	}
 	return nil
 }
 
-// run opens all stores, and recovers.
-func (it *recovery) run(ctx context.Context, config []byte, opened *opened) (recovering.Recovered, error) {
+// recover recovers an orchestrator, and gives the line of it.
+func (it *recovery) recover(ctx context.Context, config []byte, opened *opened) ([]byte, error) {
+	asked := recovering.Recovery{Config: config, Known: it.number}
+	asked.New, asked.Controller, asked.Nodes = it.open(ctx, opened)
+	if opened.err != nil {
+		return nil, opened.err
+	}
+	told, err := asked.Run(ctx)
+	return lines.Recovered(told.Lost, told.Session, told.Volumes, told.Wanted), err
+}
+
+// rebuild does so with a controller.
+func (it *recovery) rebuild(ctx context.Context, config []byte, opened *opened) ([]byte, error) {
+	asked := recovering.Rebuilding{Program: it.program, Config: config, Next: it.number}
+	asked.New, asked.Orchestrator, asked.Nodes = it.open(ctx, opened)
+	if opened.err != nil {
+		return nil, opened.err
+	}
+	return asked.Run(ctx)
+}
+
+// open opens all stores: the new one, the one that is kept, and the nodes'.
+func (it *recovery) open(ctx context.Context, opened *opened) (made, kept store.Store, nodes []store.Store) {
 	for _, path := range it.nodes {
 		opened.look(path)
 	}
-	if it.controller != "" {
-		opened.look(it.controller)
+	if it.kept != "" {
+		opened.look(it.kept)
 	}
-	asked := recovering.Recovery{Config: config, Known: it.known}
-	asked.New = opened.open(ctx, it.new, it.etcd, it.newPrefix)
-	asked.Controller = opened.open(ctx, it.controller, it.etcd, it.etcd.Prefix)
+	made = opened.open(ctx, it.new, it.etcd, it.newPrefix)
+	kept = opened.open(ctx, it.kept, it.etcd, it.etcd.Prefix)
 	for _, path := range it.nodes {
-		asked.Nodes = append(asked.Nodes, opened.open(ctx, path, etcd.Config{}, ""))
+		nodes = append(nodes, opened.open(ctx, path, etcd.Config{}, ""))
 	}
-	if opened.err != nil {
-		return recovering.Recovered{}, opened.err
-	}
-	return asked.Run(ctx)
+	return made, kept, nodes
 }
 
 // opened are stores that are open, or what went wrong with the first that isn't.

@@ -48,6 +48,7 @@ const ENDINGS: &[(Ending, &str, u8)] = &[
         1,
     ),
     (Ending::StoreNotNew, "csi-replay: store not new", 1),
+    (Ending::IdTaken, "csi-replay: id taken", 1),
     (Ending::LineFault(1), "csi-replay: line fault at 1", 1),
     (
         Ending::LineFault(18_446_744_073_709_551_615),

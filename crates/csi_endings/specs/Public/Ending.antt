@@ -3,7 +3,7 @@ use Rattle.std.specs.Prelude.{ℕ}
 use Rattle.std.specs.declared.io.ErrorKind.{ErrorKind}
 use Rattle.std.specs.declared.io.ErrorKind.TheVariants.{OutOfMemory}
 use Rattle.csi_endings.specs.declared.ending.Ending.{Ending}
-use Rattle.csi_endings.specs.declared.ending.Ending.TheVariants.{Done, FrameFault, ScheduleFault, NotUtf8, ConfigRefused, RecordFault, StoreFault, StoresDisagree, StoreNotNew, EarlierSession, LineFault, NumbersSpent, NodeInUse, OlderStore, Usage, Device, StoreNotOpened, Endless, Memory}
+use Rattle.csi_endings.specs.declared.ending.Ending.TheVariants.{Done, FrameFault, ScheduleFault, NotUtf8, ConfigRefused, RecordFault, StoreFault, StoresDisagree, StoreNotNew, IdTaken, EarlierSession, LineFault, NumbersSpent, NodeInUse, OlderStore, Usage, Device, StoreNotOpened, Endless, Memory}
 
 -- 1 for input that is refused, 2 for the command line, 3 for a device or memory
 abbrev pub exit_status : Ending → ℕ
@@ -16,6 +16,7 @@ exit_status (RecordFault place) = 1
 exit_status (StoreFault place store) = 1
 exit_status (StoresDisagree store) = 1
 exit_status StoreNotNew = 1
+exit_status IdTaken = 1
 exit_status EarlierSession = 1
 exit_status (LineFault number) = 1
 exit_status NumbersSpent = 1

@@ -27,6 +27,7 @@ help_on name =
     else if bytes_eq name (codes "orchestrator") then Some about.Orchestrator
     else if bytes_eq name (codes "record") then Some about.Record
     else if bytes_eq name (codes "recover") then Some about.Recover
+    else if bytes_eq name (codes "recover-controller") then Some about.RecoverController
     else None
 
 -- what a word asks for behind a subcommand's name

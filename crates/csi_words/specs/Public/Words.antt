@@ -9,7 +9,20 @@ use Rattle.csi_endings.specs.declared.ending.Ending.{Ending}
 use Rattle.csi_endings.specs.declared.ending.Ending.TheVariants.{Usage, Memory}
 use Rattle.csi_words.specs.declared.help.Help.{Help as HelpOn}
 use Rattle.csi_words.specs.declared.command_line.CommandLine.{CommandLine}
+use Rattle.csi_words.specs.declared.command_line.MadeOf.{MadeOf}
 use Rattle.csi_words.specs.declared.command_line.CommandLine.TheVariants as lines
+
+-- the words of a command that makes a store of others
+pub record MadeOfWords : Type 0 where
+  pub new : List ℕ
+  pub config : List ℕ
+  pub number : List ℕ
+  pub kept : List ℕ
+  pub nodes : List (List ℕ)
+
+-- those that a command line has
+abbrev pub made_of_by : MadeOf → MadeOfWords
+made_of_by words = record { new = words.new.now; config = words.config.now; number = words.number.now; kept = words.kept.now; nodes = map (λ node. node.now) words.nodes.items }
 
 -- a command, and the texts behind it; or help
 pub data Named : Type 0 where
@@ -19,7 +32,8 @@ pub data Named : Type 0 where
   Node : (store id : List ℕ) (session : Option (List ℕ)) → Named
   Orchestrator : (store config : List ℕ) (session : Option (List ℕ)) → Named
   Record : (store : List ℕ) → Named
-  Recover : (new config session controller : List ℕ) (nodes : List (List ℕ)) → Named
+  Recover : MadeOfWords → Named
+  RecoverController : MadeOfWords → Named
 
 -- what a command line has
 abbrev pub named_by : CommandLine → Named
@@ -29,7 +43,8 @@ named_by (lines.Controller store config) = Controller store.now config.now
 named_by (lines.Node store id session) = Node store.now id.now (option_map (λ word. word.now) session)
 named_by (lines.Orchestrator store config session) = Orchestrator store.now config.now (option_map (λ word. word.now) session)
 named_by (lines.Record store) = Record store.now
-named_by (lines.Recover new config session controller nodes) = Recover new.now config.now session.now controller.now (map (λ node. node.now) nodes.items)
+named_by (lines.Recover words) = Recover (made_of_by words)
+named_by (lines.RecoverController words) = RecoverController (made_of_by words)
 
 -- one word more, which has to be there
 abbrev pub with_word : App → List ℕ → App
@@ -79,13 +94,18 @@ on_plugins = with_session_command (with_store_command on_files (codes "controlle
 abbrev pub on_stores : App
 on_stores = with_one_word (with_session_command on_plugins (codes "orchestrator") (codes "CONFIG")) (codes "record") (codes "DB")
 
--- the command that makes an orchestrator's store of the controller's and of nodes' stores: the last words, as many as there are
-abbrev pub on_recover : App
-on_recover = with_words (with_word (with_word (with_word (with_word (new_app (codes "recover")) (codes "NEW")) (codes "CONFIG")) (codes "SESSION")) (codes "CONTROLLER")) (codes "NODE")
+-- a command of this name that makes a store of others: the third and the fourth word are called so; the last ones are as many as there are
+abbrev pub on_recover : List ℕ → List ℕ → List ℕ → App
+on_recover name number store = with_words (with_word (with_word (with_word (with_word (new_app name) (codes "NEW")) (codes "CONFIG")) number) store) (codes "NODE")
 
--- all commands
+-- the program with such a command
+abbrev pub with_recover_command : App → List ℕ → List ℕ → List ℕ → App
+with_recover_command app name number store = with_subcommand app (on_recover name number store).top
+
+-- all commands: the last ones make an orchestrator's store of the controller's and of nodes' stores, and a controller's of the orchestrator's
 abbrev pub program : App
-program = with_subcommand on_stores on_recover.top
+program =
+    with_recover_command (with_recover_command on_stores (codes "recover") (codes "SESSION") (codes "CONTROLLER")) (codes "recover-controller") (codes "NEXT") (codes "ORCHESTRATOR")
 
 -- the first values of the words of each command
 abbrev pub on_file_in : FileCommand → List Row → Option Named
@@ -115,11 +135,18 @@ record_in rows = option_map (λ store. Record store) (first_of (codes "DB") rows
 abbrev pub texts_of : List ℕ → List Row → List (List ℕ)
 texts_of id rows = unwrap_or (all_of id rows) []
 
--- the recovery of an orchestrator's store
+-- the words of a command that makes a store of others, of which the third and the fourth are called so
+abbrev pub made_of_in : List ℕ → List ℕ → List Row → Option MadeOfWords
+made_of_in number kept rows =
+    option_and_then (λ new. option_and_then (λ config. option_and_then (λ n. option_map (λ k. record { new = new; config = config; number = n; kept = k; nodes = texts_of (codes "NODE") rows })
+    (first_of kept rows)) (first_of number rows)) (first_of (codes "CONFIG") rows)) (first_of (codes "NEW") rows)
+
+-- the recovery of an orchestrator's store, and of a controller's
 abbrev pub recover_in : List Row → Option Named
-recover_in rows =
-    option_and_then (λ new. option_and_then (λ config. option_and_then (λ session. option_map (λ controller. Recover new config session controller (texts_of (codes "NODE") rows))
-    (first_of (codes "CONTROLLER") rows)) (first_of (codes "SESSION") rows)) (first_of (codes "CONFIG") rows)) (first_of (codes "NEW") rows)
+recover_in rows = option_map Recover (made_of_in (codes "SESSION") (codes "CONTROLLER") rows)
+
+abbrev pub recover_controller_in : List Row → Option Named
+recover_controller_in rows = option_map RecoverController (made_of_in (codes "NEXT") (codes "ORCHESTRATOR") rows)
 
 -- the command of a name, with its few words
 abbrev pub few_in : List ℕ → List Row → Option Named
@@ -137,7 +164,10 @@ few_in name rows =
 
 -- the command of a name, with its words
 abbrev pub command_in : List ℕ → List Row → Option Named
-command_in name rows = if bytes_eq name (codes "recover") then recover_in rows else few_in name rows
+command_in name rows =
+    if bytes_eq name (codes "recover") then recover_in rows
+    else if bytes_eq name (codes "recover-controller") then recover_controller_in rows
+    else few_in name rows
 
 -- of a command that was entered
 abbrev pub command_entered : Option (List ℕ × List Row) → Option Named

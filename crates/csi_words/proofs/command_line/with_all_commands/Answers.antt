@@ -1,10 +1,12 @@
--- The last command is added to the others.
-use Rattle.std.proofs.Common.{◌∙◌, ap}
+-- The last commands are added to the others.
+use Rattle.std.proofs.Common.{◌∙◌, ap, codes}
 use Rattle.std.proofs.lemmas.Result.{IfOk-weaker}
-use Rattle.clap.specs.Words.{App, with_subcommand}
-use Rattle.csi_words.specs.Public.Words.{on_recover}
+use Rattle.clap.specs.Words.{App}
+use Rattle.csi_words.specs.Public.Words.{with_recover_command}
 use Rattle.csi_words.proofs.command_line.with_all_commands.Goals as goal
 
 pub returns : goal.returns
 returns c =
-    IfOk-weaker c.with_command.result _ _ (λ command is. is ∙ ap (λ (a : App). with_subcommand a on_recover.top) c.in_ok-stores.ensures) (c.with_command.ensures _ c.recover_command.ensures)
+    let one = c.in_ok-with_one.ensures _ c.recover_command.ensures ∙ ap (λ (a : App). with_recover_command a (codes "recover") (codes "SESSION") (codes "CONTROLLER")) c.in_ok-stores.ensures in
+    IfOk-weaker c.with_command-2.result _ _ (λ command is. is ∙ ap (λ (a : App). with_recover_command a (codes "recover-controller") (codes "NEXT") (codes "ORCHESTRATOR")) one)
+    (c.with_command-2.ensures _ c.recover_command-2.ensures)
