@@ -13,7 +13,7 @@ use Rattle.csi_plugins.specs.Public.Recovering.{leave_out_used, IsNoRecovery}
 use Rattle.csi_plugins.specs.Private.Recovering.{EndsByRow, EndsByFault}
 
 -- there are as many nodes as records
-as-many : (given : List NodeParts) (gs : List GivenNode) → AreGiven given gs → length gs ≡ length given
+pub as-many : (given : List NodeParts) (gs : List GivenNode) → AreGiven given gs → length gs ≡ length given
 as-many [] [] are = refl
 as-many [] (g ∷ gs) are = absurd are
 as-many (k ∷ given) [] are = absurd are

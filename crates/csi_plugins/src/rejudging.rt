@@ -18,7 +18,8 @@ fn is_made(row: &Row) -> bool {
 
 // Whether it gets one of the same id of one of these.
 fn has_id(rows: &[Row], row: &Row) -> bool {
-    rows.iter().any(|other| is_made(other) && other.id == row.id)
+    rows.iter()
+        .any(|other| is_made(other) && other.id == row.id)
 }
 
 // Whether a controller can't have the volume of a row, by its arguments.

@@ -15,7 +15,7 @@ use Rattle.csi_plugins.proofs.given.orchestrator_in.Goals as goal
 pub returns-in-Ok-of_parts-clause-read : goal.returns-in-Ok-of_parts-clause-read
 returns-in-Ok-of_parts-clause-read g c =
     let told = c.in-Ok.ensures in
-    let kept = c.in-Ok-of_parts.kept in
+    let kept = c.in-Ok-of_parts.field-0.kept in
     record-read (g.K.Keep.store c.args.keep.now) (g.K.Keep.store c.load.new.self) c.in-Ok.parts.items told.parts orchestrator_records kept
     (record { honest = told.honest; left = told.left; some = told.some })
     (subst (λ (ps : List Part). IsRecordIn orchestrator_records (all_stored_in ps) kept) c.deref.ensures.value (record { version = c.in-Ok-of_parts.field-0.version; is = c.in-Ok-of_parts.ensures.1 }))
