@@ -15,6 +15,7 @@ import (
 
 	"tufayon/service/api"
 	"tufayon/service/api/wire"
+	"tufayon/service/daemon"
 	"tufayon/service/etcd"
 	"tufayon/service/host/hosttest"
 	"tufayon/service/store"
@@ -110,6 +111,7 @@ func TestCallers(t *testing.T) {
 }
 
 func benchmarkUse(b *testing.B, over string, nodes, callers int) {
+	daemon.CollectSeldom() // as the program does
 	kept, alone := open(b, over)
 	defer kept.Close()
 	connection, made, _ := serveLocal(b, kept, &hosttest.Carrier{}, nodes, api.Loses)

@@ -134,13 +134,18 @@ func (guard *guard) safely(path string, handle func() error) (err error) {
 	return handle()
 }
 
+// lines has room for the fields of lines of the log, of which nothing is kept once they are logged.
+var lines = sync.Pool{New: func() any { return new([12]zap.Field) }}
+
 // tell has a line of the log for each command, and for each call that was refused to its caller.
 func (guard *guard) tell(who, path string, request any, began time.Time, err error) {
 	isCommand := needed[path[strings.LastIndex(path, "/")+1:]] >= Operates
 	if !isCommand && status.Code(err) != codes.PermissionDenied && status.Code(err) != codes.Unauthenticated {
 		return
 	}
-	fields := append(make([]zap.Field, 0, 12),
+	room := lines.Get().(*[12]zap.Field)
+	defer lines.Put(room)
+	fields := append(room[:0],
 		zap.String("who", who), zap.String("call", path), zap.String("status", status.Code(err).String()), zap.Duration("took", time.Since(began)),
 	)
 	fields = asked(fields, request)

@@ -5,6 +5,7 @@ import (
 	"encoding/json"
 	"fmt"
 	"io"
+	"math"
 	"net"
 	"net/http"
 	"os"
@@ -12,22 +13,22 @@ import (
 	"path/filepath"
 	"runtime"
 	"sort"
+	"strconv"
 	"sync"
-	"sync/atomic"
-	"syscall"
 	"testing"
 	"time"
 
 	"go.uber.org/zap"
+	"golang.org/x/sys/unix"
 	"google.golang.org/grpc"
 
 	"tufayon/service/api"
 	"tufayon/service/api/wire"
 	"tufayon/service/carrying"
+	"tufayon/service/carrying/carryingtest"
 	"tufayon/service/daemon"
 	"tufayon/service/history"
 	"tufayon/service/host"
-	"tufayon/service/host/hosttest"
 	"tufayon/service/metrics"
 	"tufayon/service/secure"
 	"tufayon/service/store"
@@ -35,11 +36,12 @@ import (
 )
 
 // BenchmarkWatched has callers use and stop volumes at two services in turn, of which one is watched: its metrics are counted and scraped each second, its
-// history and its log go to files, and a page follows. Each is a process of its own, with its callers and its plugins in it; who scrapes and follows is
-// another one. A turn is a second of work, and a rest in which what was put off is done; before it, garbage is collected. It tells how much longer a use and
-// a stop take there: `ratio` is the median, over pairs of turns one after the other, of the seconds by the clock, and `processor-ratio` of the processors'
-// time of the process, what it did in the rest included; `worst-ratio` and `worst-processor-ratio` have three quarters of the pairs below them. There are as
-// many pairs as -test.benchtime Nx says, and at least twelve: a pair takes 2.6 seconds.
+// history and its log go to files, and a page follows. Each is a process of its own, over SQLite on the disk of TMPDIR; callers, plugins that say OK, and who
+// scrapes and follows are another one, and all speak gRPC over Unix sockets. In a turn callers work for 0.7 s, of which the last half second is measured: what
+// was put off before that is done in it, and what is put off in it is done in the rest behind it, which isn't. Before a turn garbage is collected. It tells how
+// much longer a use with its stop takes there, of two turns one after the other: `ratio` by the clock, `processor-ratio` of the processors' time of the
+// service. Both are medians, of which `ratio-error` and `processor-error` are the standard errors. There are pairs of turns until both errors are below
+// 0.006, at least 24 and at most 64, 1.7 seconds each, or as many as the environment's TUFAYON_BENCH_PAIRS says.
 func BenchmarkWatched(b *testing.B) {
 	for _, callers := range []int{1, 16, 64} {
 		b.Run(fmt.Sprint("callers=", callers), func(b *testing.B) { benchmarkWatched(b, callers) })
@@ -47,59 +49,94 @@ func BenchmarkWatched(b *testing.B) {
 }
 
 const (
-	turnsKey  = "TUFAYON_BENCH_TURNS" // in the environment of a process that serves turns: how many callers it has, and whether it is watched
-	fewest    = 12                    // pairs of turns
-	turnLasts = time.Second
-	turnRests = 300 * time.Millisecond
+	// What the environment tells this program where it is a service of BenchmarkWatched: the folder with the plugins' sockets, and whether it is watched.
+	servedIn  = "TUFAYON_BENCH_SERVED"
+	isWatched = "TUFAYON_BENCH_WATCHED"
+
+	// The environment's folder for profiles of these services, if it names one: unwatched-1, watched-1, ..
+	profilesKey = "TUFAYON_BENCH_PROFILES"
+
+	// The environment's number of pairs of turns.
+	pairsKey = "TUFAYON_BENCH_PAIRS"
+
+	fewest    = 24 // pairs of turns
+	most      = 64
+	exact     = 0.006
+	turnLasts = 700 * time.Millisecond
+	isCounted = 500 * time.Millisecond // of a turn, its end
+	turnRests = 150 * time.Millisecond
 )
 
-// A turn is what came of one.
-type turn struct {
-	Count          int     // of uses and stops, a pair of which is one
-	Seconds, Spent float64 // by the clock, and of the processors
-}
-
 func benchmarkWatched(b *testing.B, callers int) {
-	services := [2]*turning{startTurning(b, callers, false), startTurning(b, callers, true)}
+	folder := b.TempDir()
+	for _, it := range []string{"c", "n1"} {
+		(&carryingtest.Plugin{Node: "n1", Forgets: true}).Serve(b, "unix://"+filepath.Join(folder, it), nil)
+	}
+	services := [2]*served{startServed(b, folder, "unwatched", callers), startServed(b, folder, "watched", callers)}
 	services[1].follow(b)
-	var ratios, spent []float64
-	var unwatched []turn
-	for pair := 0; pair < b.N || pair < fewest; pair++ {
+	var ratios, spent, unwatched, took []float64
+	asked, _ := strconv.Atoi(os.Getenv(pairsKey))
+	isEnough := func(pairs int) bool {
+		if asked > 0 {
+			return pairs >= asked
+		}
+		return pairs >= most || pairs >= fewest && errorOf(ratios) < exact && errorOf(spent) < exact
+	}
+	for pair := 0; !isEnough(pair); pair++ {
 		var turns [2]turn
 		for _, which := range [][]int{{0, 1}, {1, 0}}[pair%2] {
-			if which == 1 {
-				services[1].scrape(b)
+			if which == 1 && pair%2 == 0 {
+				services[1].scrape()
 			}
-			turns[which] = services[which].turn(b)
+			turns[which] = services[which].turn(b, callers)
 		}
-		ratios = append(ratios, turns[1].Seconds/float64(turns[1].Count)/(turns[0].Seconds/float64(turns[0].Count)))
-		spent = append(spent, turns[1].Spent/float64(turns[1].Count)/(turns[0].Spent/float64(turns[0].Count)))
-		unwatched = append(unwatched, turns[0])
+		ratios = append(ratios, turns[1].seconds/turns[0].seconds)
+		spent = append(spent, turns[1].spent/turns[0].spent)
+		unwatched, took = append(unwatched, turns[0].seconds), append(took, turns[0].spent)
+		b.Logf("%.2f and %.2f ms, %.0f and %.0f us", 1e3*turns[0].seconds, 1e3*turns[1].seconds, 1e6*turns[0].spent, 1e6*turns[1].spent)
 	}
-	sort.Float64s(ratios)
-	sort.Float64s(spent)
-	sort.Slice(unwatched, func(i, j int) bool { return unwatched[i].Count < unwatched[j].Count })
-	middle := unwatched[len(unwatched)/2]
-	b.ReportMetric(ratios[len(ratios)/2], "ratio")
-	b.ReportMetric(ratios[len(ratios)*3/4], "worst-ratio")
-	b.ReportMetric(spent[len(spent)/2], "processor-ratio")
-	b.ReportMetric(spent[len(spent)*3/4], "worst-processor-ratio")
-	b.ReportMetric(1000*middle.Seconds*float64(callers)/float64(middle.Count), "ms")
-	b.ReportMetric(1e6*middle.Spent/float64(middle.Count), "processor-us")
+	b.ReportMetric(median(ratios), "ratio")
+	b.ReportMetric(errorOf(ratios), "ratio-error")
+	b.ReportMetric(median(spent), "processor-ratio")
+	b.ReportMetric(errorOf(spent), "processor-error")
+	b.ReportMetric(1e3*median(unwatched), "ms")
+	b.ReportMetric(1e6*median(took), "processor-us")
+	b.ReportMetric(float64(len(ratios)), "pairs")
 	b.ReportMetric(0, "ns/op") // which would be that of pairs of turns
 }
 
-// turning is a process that serves turns.
-type turning struct {
+func median(all []float64) float64 {
+	sort.Float64s(all)
+	return (all[(len(all)-1)/2] + all[len(all)/2]) / 2
+}
+
+// errorOf is the standard error of the median of these: half of how far those are apart that are as many places above it and below it as a coin that is thrown
+// for each is above or below its mean.
+func errorOf(all []float64) float64 {
+	sort.Float64s(all)
+	places, middle := math.Sqrt(float64(len(all)))/2, float64(len(all)-1)/2
+	above, below := math.Min(math.Ceil(middle+places), float64(len(all)-1)), math.Max(math.Floor(middle-places), 0)
+	return (all[int(above)] - all[int(below)]) / 2
+}
+
+// A served is a service that is a process of its own, with a volume for each caller.
+type served struct {
 	running *exec.Cmd
 	asks    io.WriteCloser
 	answers *json.Decoder
-	address string // where it is watched
+	watched string // where it is watched
+	client  wire.OrchestratorClient
 }
 
-func startTurning(b *testing.B, callers int, isWatched bool) *turning {
-	running := exec.Command(os.Args[0], "-test.run", "^TestTurns$")
-	running.Env = append(os.Environ(), fmt.Sprint(turnsKey, "=", callers, " ", isWatched))
+func startServed(b *testing.B, folder, name string, callers int) *served {
+	running := exec.Command(os.Args[0], "-test.run", "^TestServed$")
+	if folder := os.Getenv(profilesKey); folder != "" {
+		running.Args = append(running.Args, "-test.cpuprofile", filepath.Join(folder, fmt.Sprint(name, "-", callers)))
+	}
+	running.Env = append(os.Environ(), servedIn+"="+folder)
+	if name == "watched" {
+		running.Env = append(running.Env, isWatched+"=yes")
+	}
 	running.Stderr = os.Stderr
 	asks, err := running.StdinPipe()
 	if err != nil {
@@ -114,38 +151,36 @@ func startTurning(b *testing.B, callers int, isWatched bool) *turning {
 		b.Fatal(err)
 	}
 	to.Close()
-	it := &turning{running: running, asks: asks, answers: json.NewDecoder(from)}
+	it := &served{running: running, asks: asks, answers: json.NewDecoder(from)}
 	b.Cleanup(func() { asks.Close(); running.Wait(); from.Close() })
-	if err := it.answers.Decode(&it.address); err != nil {
+	var at [2]string
+	if err := it.answers.Decode(&at); err != nil {
 		b.Fatal(err)
+	}
+	it.watched = at[1]
+	it.client = wire.NewOrchestratorClient(dial(b, "unix://"+at[0], secure.Local{May: func(uid uint32) bool { return int(uid) == os.Geteuid() }}))
+	for caller := 0; caller < callers; caller++ {
+		request := &wire.CreateRequest{Name: fmt.Sprint("v", caller), Capabilities: []*wire.Capability{block}, Wait: wire.Wait_AT_REST}
+		if _, err := it.client.Create(ctx, request); err != nil {
+			b.Fatal(err)
+		}
 	}
 	return it
 }
 
-// turn has it do a turn.
-func (it *turning) turn(b *testing.B) (done turn) {
-	if _, err := it.asks.Write([]byte("\n")); err != nil {
-		b.Fatal(err)
-	}
-	if err := it.answers.Decode(&done); err != nil {
-		b.Fatal(err)
-	}
-	return done
-}
-
-// scrape scrapes it while it has its turn.
-func (it *turning) scrape(b *testing.B) {
-	go func() {
-		if answer, err := http.Get("http://" + it.address + "/metrics"); err == nil {
+// scrape scrapes it while it has its turn, in what is counted.
+func (it *served) scrape() {
+	time.AfterFunc(turnLasts-isCounted/2, func() {
+		if answer, err := http.Get("http://" + it.watched + "/metrics"); err == nil {
 			io.Copy(io.Discard, answer.Body)
 			answer.Body.Close()
 		}
-	}()
+	})
 }
 
 // follow follows as a page, until it ends.
-func (it *turning) follow(b *testing.B) {
-	answer, err := http.Get("http://" + it.address + "/events")
+func (it *served) follow(b *testing.B) {
+	answer, err := http.Get("http://" + it.watched + "/events")
 	if err != nil {
 		b.Fatal(err)
 	}
@@ -155,94 +190,121 @@ func (it *turning) follow(b *testing.B) {
 	}()
 }
 
-// TestTurns is no test: it serves turns for BenchmarkWatched, one for each line that comes.
-func TestTurns(t *testing.T) {
-	if os.Getenv(turnsKey) == "" {
-		t.Skip("only for BenchmarkWatched")
+// processors is how long its process has had the processors.
+func (it *served) processors(b *testing.B) time.Duration {
+	var used unix.Timespec
+	if err := unix.ClockGettime(int32(^it.running.Process.Pid<<3|2), &used); err != nil { // as clock_getcpuclockid(3) has it
+		b.Fatal(err)
 	}
-	var callers int
-	var isWatched bool
-	if _, err := fmt.Sscan(os.Getenv(turnsKey), &callers, &isWatched); err != nil {
-		t.Fatal(err)
-	}
-	client, address := newBenched(t, isWatched)
-	for caller := 0; caller < callers; caller++ {
-		request := &wire.CreateRequest{Name: fmt.Sprint("v", caller), Capabilities: []*wire.Capability{block}, Wait: wire.Wait_AT_REST}
-		if _, err := client.Create(ctx, request); err != nil {
-			t.Fatal(err)
-		}
-	}
-	to := json.NewEncoder(os.NewFile(3, "answers"))
-	to.Encode(address)
-	for asked := bufio.NewScanner(os.Stdin); asked.Scan(); {
-		runtime.GC()
-		began, before := time.Now(), processors()
-		done := turn{Count: work(t, client, callers)}
-		done.Seconds = time.Since(began).Seconds()
-		time.Sleep(turnRests)
-		done.Spent = (processors() - before).Seconds()
-		to.Encode(done)
-	}
+	return time.Duration(used.Nano())
 }
 
-// processors is what this process took of them.
-func processors() time.Duration {
-	var usage syscall.Rusage
-	syscall.Getrusage(syscall.RUSAGE_SELF, &usage)
-	return time.Duration(usage.Utime.Nano() + usage.Stime.Nano())
-}
+// A turn is what came of one: how long a use with its stop took in the mean, of those that ended in what is counted, in seconds by the clock and of the
+// service's processors.
+type turn struct{ seconds, spent float64 }
 
-// work has callers use and stop a volume each, one after another, as long as a turn lasts, and tells how often both were done.
-func work(t *testing.T, client wire.OrchestratorClient, callers int) int {
+// turn has callers use and stop a volume each, again and again.
+func (it *served) turn(b *testing.B, callers int) turn {
+	it.collect(b)
+	var mutex sync.Mutex
 	var group sync.WaitGroup
-	var count int64
+	var took []time.Duration
 	end := time.Now().Add(turnLasts)
+	counts := end.Add(-isCounted)
 	for caller := 0; caller < callers; caller++ {
 		group.Add(1)
 		go func(name string) {
 			defer group.Done()
-			for time.Now().Before(end) {
-				_, err := client.Use(ctx, &wire.UseRequest{Name: name, Node: "n1", Target: "/a", Capability: block, Wait: wire.Wait_AT_REST})
+			var its []time.Duration
+			for began := time.Now(); began.Before(end); {
+				_, err := it.client.Use(ctx, &wire.UseRequest{Name: name, Node: "n1", Target: "/a", Capability: block, Wait: wire.Wait_AT_REST})
 				if err == nil {
-					_, err = client.Stop(ctx, &wire.StopRequest{Name: name, Node: "n1", Target: "/a", Wait: wire.Wait_AT_REST})
+					_, err = it.client.Stop(ctx, &wire.StopRequest{Name: name, Node: "n1", Target: "/a", Wait: wire.Wait_AT_REST})
 				}
 				if err != nil {
-					t.Error(err)
+					b.Error(err)
 					return
 				}
-				atomic.AddInt64(&count, 1)
+				now := time.Now()
+				if now.After(counts) && now.Before(end) {
+					its = append(its, now.Sub(began))
+				}
+				began = now
 			}
+			mutex.Lock()
+			defer mutex.Unlock()
+			took = append(took, its...)
 		}(fmt.Sprint("v", caller))
 	}
+	time.Sleep(time.Until(counts))
+	spent := it.processors(b)
+	time.Sleep(time.Until(end))
+	spent = it.processors(b) - spent
 	group.Wait()
-	return int(count)
+	time.Sleep(turnRests)
+	all := time.Duration(0)
+	for _, it := range took {
+		all += it
+	}
+	return turn{all.Seconds() / float64(len(took)), spent.Seconds() / float64(len(took))}
 }
 
-// newBenched serves an orchestrator over SQLite, which is watched or not, and tells where.
-func newBenched(b testing.TB, isWatched bool) (client wire.OrchestratorClient, address string) {
-	kept, err := store.OpenSQLite(ctx, filepath.Join(b.TempDir(), "o.db"))
-	if err != nil {
+// collect has it collect its garbage.
+func (it *served) collect(b *testing.B) {
+	runtime.GC() // here too
+	var done bool
+	if _, err := it.asks.Write([]byte("\n")); err != nil {
 		b.Fatal(err)
 	}
-	b.Cleanup(func() { kept.Close() })
-	listener, err := secure.Listen(filepath.Join(b.TempDir(), "socket"))
-	if err != nil {
+	if err := it.answers.Decode(&done); err != nil {
 		b.Fatal(err)
+	}
+}
+
+// TestServed is no test: it is a service of BenchmarkWatched, until its standard input ends. For each line that comes it collects its garbage.
+func TestServed(t *testing.T) {
+	folder := os.Getenv(servedIn)
+	if folder == "" {
+		t.Skip("only for BenchmarkWatched")
+	}
+	daemon.CollectSeldom() // as the program does
+	kept, err := store.OpenSQLite(ctx, filepath.Join(t.TempDir(), "o.db"))
+	if err != nil {
+		t.Fatal(err)
+	}
+	t.Cleanup(func() { kept.Close() })
+	listener, err := secure.Listen(filepath.Join(t.TempDir(), "socket"))
+	if err != nil {
+		t.Fatal(err)
 	}
 	own := uint32(os.Geteuid())
 	roles := &api.Roles{}
 	roles.Set(nil, map[uint32]api.Role{own: api.Loses})
 	known := secure.Local{May: roles.MayConnect}
-	if isWatched {
-		address = watched(b, kept, listener, known, roles)
-	} else {
-		serve(b, kept, &hosttest.Carrier{}, 8, listener, known, roles)
+	peers := carrying.Peers{May: func(uid uint32) bool { return uid == own }, Refused: func(string) secure.Refused { return nil }}
+	limits := carrying.Limits{AtController: 64, AtNode: 32, Answer: time.Minute, Reach: time.Minute}
+	carrier := carrying.New(limits, "/staging", peers.Dial)
+	t.Cleanup(carrier.Close)
+	sockets := map[string]string{carrying.Controller: "unix://" + filepath.Join(folder, "c"), carrying.NodeName("n1"): "unix://" + filepath.Join(folder, "n1")}
+	if err := carrier.Set(sockets); err != nil {
+		t.Fatal(err)
 	}
-	return wire.NewOrchestratorClient(dial(b, "unix://"+listener.Addr().String(), known)), address
+	at := [2]string{listener.Addr().String()}
+	if os.Getenv(isWatched) != "" {
+		at[1] = watched(t, kept, carrier, listener, known, roles)
+	} else {
+		serve(t, kept, carrier, 1, listener, known, roles)
+	}
+	to := json.NewEncoder(os.NewFile(3, "answers"))
+	to.Encode(at)
+	for asked := bufio.NewScanner(os.Stdin); asked.Scan(); {
+		runtime.GC()
+		to.Encode(true)
+	}
 }
 
 // watched serves one with all that tells of it, and says where.
-func watched(b testing.TB, kept store.Store, listener net.Listener, known secure.Local, roles *api.Roles) (address string) {
+func watched(b testing.TB, kept store.Store, carrier *carrying.Carrier, listener net.Listener, known secure.Local, roles *api.Roles) (address string) {
 	told := metrics.NewOrchestrator()
 	keeps, err := history.Open(filepath.Join(b.TempDir(), "history"), history.Usual, zap.NewNop())
 	if err != nil {
@@ -254,16 +316,13 @@ func watched(b testing.TB, kept store.Store, listener net.Listener, known secure
 	}
 	log := daemon.LoggerTo(file, zap.InfoLevel)
 	b.Cleanup(func() { keeps.Close(); log.Sync(); file.Close() })
-	made := serveBy(b, host.Options{Store: kept, Carrier: &hosttest.Carrier{}, Log: log, Observers: []host.Observer{told, keeps}}, 8, listener, known, roles,
+	made := serveBy(b, host.Options{Store: kept, Carrier: carrier, Log: log, Observers: []host.Observer{told, keeps}}, 1, listener, known, roles,
 		grpc.ChainUnaryInterceptor(told.Server.Unary), grpc.ChainStreamInterceptor(told.Server.Stream))
 	leads := func() *host.Host { return made }
-	states := func() map[string]carrying.State {
-		return map[string]carrying.State{carrying.Controller: {Connection: "READY"}}
-	}
 	slots := func() map[string]uint64 { return nil }
-	page := web.NewPage(web.Source{Set: "s1", Host: leads, Leader: func() string { return "" }, Plugins: states, Slots: slots, History: keeps})
+	page := web.NewPage(web.Source{Set: "s1", Host: leads, Leader: func() string { return "" }, Plugins: carrier.States, Slots: slots, History: keeps})
 	told.Watch(metrics.Source{
-		Set: "s1", Host: leads, Plugins: states, Slots: slots, Ends: func() map[string]time.Time { return nil }, Streams: page.Streams, History: keeps.Count,
+		Set: "s1", Host: leads, Plugins: carrier.States, Slots: slots, Ends: func() map[string]time.Time { return nil }, Streams: page.Streams, History: keeps.Count,
 	})
 	server := web.New(web.Options{Metrics: told.Handler(), Ready: func() bool { return true }, Page: page})
 	at, err := net.Listen("tcp", "127.0.0.1:0")

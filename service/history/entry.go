@@ -62,8 +62,12 @@ type Call struct {
 }
 
 // String is as a log has it.
-func (call Call) String() string {
-	return call.Kind + " " + strconv.FormatUint(call.Number.Session, 10) + "." + strconv.FormatUint(call.Number.Call, 10) + " to " + call.Plugin
+func (call Call) String() string { return string(call.appendTo(nil)) }
+
+func (call *Call) appendTo(to []byte) []byte {
+	to = strconv.AppendUint(append(append(to, call.Kind...), ' '), call.Number.Session, 10)
+	to = strconv.AppendUint(append(to, '.'), call.Number.Call, 10)
+	return append(append(to, " to "...), call.Plugin...)
 }
 
 // plugins are names of plugins, each made once.
@@ -121,36 +125,38 @@ func outcomeOf(it *host.Happening) string {
 }
 
 // Text is what the entry says, in a line, without its time and name.
-func (entry *Entry) Text() string {
-	text := ""
+func (entry *Entry) Text() string { return string(entry.AppendText(nil)) }
+
+// AppendText appends that.
+func (entry *Entry) AppendText(to []byte) []byte {
 	switch entry.What {
 	case reply:
-		text = entry.Call.String() + ": " + codes.Code(entry.Status).String()
+		to = append(append(entry.Call.appendTo(to), ": "...), codes.Code(entry.Status).String()...)
 		if entry.Detail != "" {
-			text += " " + entry.Detail
+			to = append(append(to, ' '), entry.Detail...)
 		}
 	case none:
-		return entry.Call.String() + ": " + entry.Detail
+		return append(append(entry.Call.appendTo(to), ": "...), entry.Detail...)
 	case timeout:
-		text = "timeout"
+		to = append(to, timeout...)
 	case session:
-		return fmt.Sprintf("session %d begins: %s", entry.Session, entry.Detail)
+		return fmt.Appendf(to, "session %d begins: %s", entry.Session, entry.Detail)
 	case lose:
 		var event map[string]string
 		_ = json.Unmarshal(entry.Event, &event) // this package wrote it
-		return fmt.Sprintf("node %s is lost, session %d begins", event[lose], entry.Session)
+		return fmt.Appendf(to, "node %s is lost, session %d begins", event[lose], entry.Session)
 	default:
-		text = entry.asked()
+		to = entry.appendAsked(to)
 		if entry.Outcome != sent {
-			return text + ": " + entry.Outcome
+			return append(append(to, ": "...), entry.Outcome...)
 		}
 	}
 	if entry.Sent != nil {
-		text += ", sends " + entry.Sent.String()
+		to = entry.Sent.appendTo(append(to, ", sends "...))
 	} else if entry.What == reply {
-		text += ", at rest"
+		to = append(to, ", at rest"...)
 	}
-	return text
+	return to
 }
 
 // node is the one that a command names.
@@ -160,8 +166,8 @@ func (entry *Entry) node() string {
 	return event[entry.What].Node
 }
 
-// asked is the command, without the volume's name.
-func (entry *Entry) asked() string {
+// appendAsked appends the command, without the volume's name.
+func (entry *Entry) appendAsked(to []byte) []byte {
 	at := entry.at
 	if at.Node == "" && (entry.What == commandNames[host.Use] || entry.What == commandNames[host.Stop]) {
 		var event map[string]where
@@ -169,9 +175,9 @@ func (entry *Entry) asked() string {
 		at = event[entry.What]
 	}
 	if at.Node == "" {
-		return entry.What
+		return append(to, entry.What...)
 	}
-	return entry.What + " at " + at.Node + " " + at.Target
+	return append(append(append(append(append(to, entry.What...), " at "...), at.Node...), ' '), at.Target...)
 }
 
 // At is the entry's time.

@@ -18,10 +18,10 @@ import (
 type file struct {
 	path    string
 	to      *os.File
-	buffer  *bufio.Writer
 	lines   int
-	isStale bool // it has to be written anew
-	err     error
+	isStale bool  // it has to be written anew
+	fault   error // what the last writing failed by
+	err     error // why it isn't written any more
 }
 
 // head is the first line.
@@ -79,13 +79,19 @@ func (made *History) read(content []byte) error {
 	return nil
 }
 
-// write writes an entry's line, unless the file is to be written anew.
-func (it *file) write(line []byte) {
-	if it.err != nil || it.isStale {
-		return
+// write writes lines, unless the file is to be written anew.
+func (it *file) write(lines []byte) {
+	if it.err == nil && it.fault == nil && !it.isStale {
+		_, it.fault = it.to.Write(lines)
 	}
-	it.lines++
-	it.buffer.Write(line) // it remembers what fails, until it is flushed
+}
+
+// writeOf writes the lines of a pack that the file hasn't yet.
+func (it *file) writeOf(last *pack) {
+	if last.written < len(last.lines) {
+		it.write(last.lines[last.written:])
+		last.written = len(last.lines)
+	}
 }
 
 // save has the file have all. The lock is held. Where the file can't be written, the history goes on in memory.
@@ -97,7 +103,8 @@ func (made *History) save() {
 	if it.isStale || it.lines > 4*made.most {
 		it.err = made.rewrite()
 	} else {
-		it.err = it.buffer.Flush()
+		it.writeOf(made.last)
+		it.err = it.fault
 	}
 	if it.err != nil {
 		made.log.Error("the history isn't kept any more", zap.Error(it.err))
@@ -128,7 +135,8 @@ func (made *History) rewrite() error {
 	if it.to != nil {
 		it.to.Close()
 	}
-	it.to, it.buffer, it.lines, it.isStale = anew, buffer, made.count, false
+	it.to, it.lines, it.isStale = anew, made.count, false
+	made.last.written = len(made.last.lines)
 	return nil
 }
 

@@ -125,11 +125,7 @@ func (made *History) take(it *host.Happening) {
 		made.cut(map[string]*records.Row{it.Name: it.Before})
 	}
 	last := made.last
-	before := len(last.lines)
 	last.lines = made.plugins.appendHappening(last.lines, it)
-	if made.file != nil {
-		made.file.write(last.lines[before:])
-	}
 	made.rows[it.Name] = it.Row
 	if it.Row == nil {
 		delete(made.rows, it.Name)
@@ -147,6 +143,7 @@ func (made *History) takeWhole(it *host.Happening) {
 	entry.Rows = made.begins(it)
 	entry.Config = made.config
 	if made.file != nil {
+		made.file.writeOf(made.last) // what came before
 		made.file.write(appendLine(nil, entry))
 	}
 	made.put(entry)

@@ -16,6 +16,7 @@ type pack struct {
 	marks        []mark
 	whole        map[int]*Entry // sessions and losses, which say something of many volumes, by their places
 	first        int            // the place of the first entry that is still kept
+	written      int            // so many bytes of lines the file has
 }
 
 // A mark says where an entry's line and name end.
@@ -147,6 +148,9 @@ func (made *History) add(it recent) {
 	last.names = append(last.names, it.name()...)
 	last.marks = append(last.marks, mark{line: uint32(len(last.lines)), name: uint32(len(last.names)), isCut: it.isCut})
 	made.count++
+	if made.file != nil {
+		made.file.lines++
+	}
 	made.entries = append(made.entries, it)
 	if len(made.entries) >= 2*made.fresh {
 		left := copy(made.entries, made.entries[made.fresh:])
@@ -156,6 +160,9 @@ func (made *History) add(it recent) {
 		made.entries = made.entries[:left]
 	}
 	if len(last.marks) == made.fresh {
+		if made.file != nil {
+			made.file.writeOf(last)
+		}
 		made.last = newPack(made.fresh, len(last.lines), len(last.names))
 		made.packs = append(made.packs, made.last)
 	}

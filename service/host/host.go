@@ -13,6 +13,7 @@ import (
 	"time"
 
 	"go.uber.org/zap"
+	"go.uber.org/zap/zapcore"
 
 	"tufayon/service/carrying"
 	"tufayon/service/frames"
@@ -253,19 +254,27 @@ func (host *Host) call(ctx context.Context, epoch uint64, it *sending) {
 	if ctx.Err() != nil {
 		return // it was given up
 	}
-	took := time.Since(began)
+	now := time.Now()
+	took := now.Sub(began)
 	for _, observer := range host.observers {
 		observer.Called(it.call, reply, err, took)
 	}
 	host.tell(&heard{name: it.name, epoch: epoch, call: it.call, reply: reply, err: err})
-	host.logs(it, reply, err, took) // nobody waits for that
+	host.logs(it, reply, err, now, took) // nobody waits for that
 }
 
 // lines has room for the fields of lines of the log, of which nothing is kept once they are logged.
 var lines = sync.Pool{New: func() any { return new([9]zap.Field) }}
 
-// logs has a line of the log for a call.
-func (host *Host) logs(it *sending, reply frames.Reply, err error, took time.Duration) {
+// logs has a line of the log for a call that ended now. Of what zap would do of each line it wants the core's part alone.
+func (host *Host) logs(it *sending, reply frames.Reply, err error, now time.Time, took time.Duration) {
+	core, level, message := host.log.Core(), zap.InfoLevel, "a call"
+	if err != nil {
+		level, message = zap.WarnLevel, "a call got no reply"
+	}
+	if !core.Enabled(level) {
+		return
+	}
 	room := lines.Get().(*[9]zap.Field)
 	defer lines.Put(room)
 	fields := append(room[:0],
@@ -276,10 +285,11 @@ func (host *Host) logs(it *sending, reply frames.Reply, err error, took time.Dur
 		fields = append(fields, zap.String("trace", it.trace))
 	}
 	if err != nil {
-		host.log.Warn("a call got no reply", append(fields, zap.Error(err))...)
-		return
+		fields = append(fields, zap.Error(err))
+	} else {
+		fields = append(fields, zap.Uint8("status", reply.Status), zap.String("detail", reply.Detail))
 	}
-	host.log.Info("a call", append(fields, zap.Uint8("status", reply.Status), zap.String("detail", reply.Detail))...)
+	_ = core.Write(zapcore.Entry{Level: level, Time: now, Message: message}, fields) // there is nobody to tell
 }
 
 // tell hands an event to the loop.

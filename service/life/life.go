@@ -5,12 +5,11 @@ import (
 	"context"
 	"fmt"
 	"net"
-	"os"
-	"runtime/debug"
 	"time"
 
 	"google.golang.org/grpc"
 
+	"tufayon/service/daemon"
 	"tufayon/service/driver"
 	"tufayon/service/hooks"
 	"tufayon/service/limiting"
@@ -25,7 +24,6 @@ import (
 const (
 	callsEnd = 10 * time.Second // how long calls that are under way may go on once the driver is to end
 	mostEnd  = 8 * time.Second  // how long all the rest of an end may take
-	collects = 400              // GOGC, where the environment has none: a driver's heap is small, and Go would collect a few MB of garbage many times a second
 )
 
 // A Driver says what is run.
@@ -104,9 +102,7 @@ func (life *Life) Run(ctx context.Context) error {
 	if err := life.driver.Maker.Check(); err != nil {
 		return err // before there is a store
 	}
-	if os.Getenv("GOGC") == "" {
-		debug.SetGCPercent(collects)
-	}
+	daemon.CollectSeldom()
 	telling, told := context.WithCancel(context.Background())
 	defer told()
 	go life.tellTroubles(telling)

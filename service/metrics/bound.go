@@ -1,29 +1,34 @@
 package metrics
 
-import "sync"
+import (
+	"sync"
+	"sync/atomic"
+)
 
 // bound has, by keys, what metrics are found by: so labels are looked up once for each key, and not at each event.
 type bound[Key comparable, Of any] struct {
 	find func(Key) Of
 
-	mutex sync.RWMutex
-	of    map[Key]Of
+	of    atomic.Pointer[map[Key]Of] // which nobody changes
+	mutex sync.Mutex                 // of who puts another one in its place
 }
 
 // at gives what is found for a key.
 func (it *bound[Key, Of]) at(key Key) Of {
-	it.mutex.RLock()
-	found, isThere := it.of[key]
-	it.mutex.RUnlock()
-	if isThere {
-		return found
+	if of := it.of.Load(); of != nil {
+		if found, isThere := (*of)[key]; isThere {
+			return found
+		}
 	}
-	found = it.find(key)
+	found := it.find(key)
 	it.mutex.Lock()
 	defer it.mutex.Unlock()
-	if it.of == nil {
-		it.of = map[Key]Of{}
+	made := map[Key]Of{key: found}
+	if of := it.of.Load(); of != nil {
+		for key, its := range *of {
+			made[key] = its
+		}
 	}
-	it.of[key] = found
+	it.of.Store(&made)
 	return found
 }

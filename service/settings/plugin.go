@@ -48,8 +48,9 @@ const (
 // UsualName is a plugin's where it is left out.
 const UsualName = "csi.tufayon.example"
 
-// UsualAbove is how far a session may be above the latest one where it is left out.
-const UsualAbove = 1000000
+// UsualAbove is how far a session may be above the latest one where it is left out: that of a recovery is 2^20 above all that were heard of, which a few
+// recoveries in a row may be without a plugin that comes new being told of them.
+const UsualAbove = 10000000
 
 // Deeds are the names of deeds that a command may do, with CSI's names of their calls.
 var Deeds = map[secure.Role]map[string]string{

@@ -1,137 +1,260 @@
 package upstream_test
 
 import (
+	"bufio"
 	"context"
 	"fmt"
+	"math"
+	"net"
 	"os"
+	"os/exec"
 	"path/filepath"
 	"sort"
+	"strconv"
 	"sync"
-	"sync/atomic"
-	"syscall"
 	"testing"
 	"time"
 
 	"github.com/golang/protobuf/proto"
+	"golang.org/x/sys/unix"
 	"google.golang.org/grpc"
 
 	"tufayon/service/passing"
-	"tufayon/service/upstream"
 	"tufayon/service/upstream/upstreamtest"
 )
 
-// A work is what an upstream's deed takes.
-type work struct {
-	name string
-	make func(b *testing.B) func()
-}
-
-func sleeps(name string, long time.Duration) work {
-	return work{name, func(*testing.B) func() { return func() { time.Sleep(long) } }}
-}
-
-var works = []work{
-	{"nothing", func(*testing.B) func() { return nil }},
-	{"a sync", func(b *testing.B) func() {
-		file, err := os.Create(filepath.Join(b.TempDir(), "state"))
+// works are what an upstream's deed takes.
+var works = map[string]func(t testing.TB) func(){
+	"nothing": func(testing.TB) func() { return nil },
+	"sync": func(t testing.TB) func() {
+		file, err := os.Create(filepath.Join(t.TempDir(), "state"))
 		if err != nil {
-			b.Fatal(err)
+			t.Fatal(err)
 		}
-		b.Cleanup(func() { file.Close() })
+		t.Cleanup(func() { file.Close() })
 		return func() {
 			if _, err := file.WriteAt(make([]byte, 4096), 0); err != nil {
-				b.Error(err)
+				t.Error(err)
 			}
 			file.Sync()
 		}
-	}},
-	sleeps("1ms", time.Millisecond), sleeps("2ms", 2*time.Millisecond), sleeps("5ms", 5*time.Millisecond), sleeps("10ms", 10*time.Millisecond),
+	},
+	"1ms": sleeps(time.Millisecond), "2ms": sleeps(2 * time.Millisecond), "5ms": sleeps(5 * time.Millisecond), "10ms": sleeps(10 * time.Millisecond),
 }
 
-// BenchmarkAttach has volumes attached and detached by clients at once, at an upstream alone and then through a driver before it, whose store is on the disk
-// of TMPDIR, with a log that has grown to its size: calls a second, the median time of one, how many times that of the upstream alone it is, and how long all
-// of it has the processors for one.
+func sleeps(long time.Duration) func(testing.TB) func() {
+	return func(testing.TB) func() { return func() { time.Sleep(long) } }
+}
+
+// BenchmarkAttach has volumes attached and detached by clients at once, in turn at an upstream alone and through a driver before it, whose store is on the
+// disk of TMPDIR, with a log that has grown to its size. Clients, driver and upstream are three processes. A turn is of 0.4 s, of which the last 0.3 s are
+// measured. It tells the median time of a call at the upstream alone and through the driver, and calls a second; `times`, the median over pairs of turns of
+// how many times the one is the other, with its standard error; and how long each process has the processors for a call through the driver, and those of
+// clients and upstream for one at the upstream alone. There are 12 pairs of turns, 0.8 seconds each, or as many as the environment's
+// TUFAYON_BENCH_PAIRS says.
 func BenchmarkAttach(b *testing.B) {
-	for _, work := range works {
+	for _, work := range []string{"nothing", "sync", "1ms", "2ms", "5ms", "10ms"} {
 		for _, clients := range []int{1, 16, 64} {
-			var alone time.Duration
-			b.Run(fmt.Sprintf("work=%s/clients=%d/alone", work.name, clients), func(b *testing.B) { alone = benchmarkAttach(b, work.make(b), clients, false) })
-			b.Run(fmt.Sprintf("work=%s/clients=%d/through", work.name, clients), func(b *testing.B) {
-				if through := benchmarkAttach(b, work.make(b), clients, true); alone > 0 {
-					b.ReportMetric(float64(through)/float64(alone), "times")
-				}
-			})
+			b.Run(fmt.Sprintf("work=%s/clients=%d", work, clients), func(b *testing.B) { benchmarkAttach(b, work, clients) })
 		}
 	}
 }
 
-// processors is how long this process, with its clients, its upstream and its driver, has had the processors.
-func processors() time.Duration {
-	var used syscall.Rusage
-	if syscall.Getrusage(syscall.RUSAGE_SELF, &used) != nil {
-		return 0
+const (
+	pairs     = 12
+	turnLasts = 400 * time.Millisecond
+	isCounted = 300 * time.Millisecond // of a turn, its end
+
+	// grown is after how many commits SQLite's log is as large as it gets, 1,000 pages: from then on it is written over, which a disk syncs in half the time.
+	grown = 600
+
+	workIs = "TUFAYON_TEST_WORK" // what the environment tells this program where it is an upstream that a benchmark runs: what a deed takes
+
+	// The environment's folder for the driver's profile, if it names one.
+	profilesKey = "TUFAYON_BENCH_PROFILES"
+
+	pairsKey = "TUFAYON_BENCH_PAIRS" // the environment's number of pairs of turns
+)
+
+// TestUpstream is no test: it is the upstream of BenchmarkAttach, until its standard input ends.
+func TestUpstream(t *testing.T) {
+	work := works[os.Getenv(workIs)]
+	if work == nil {
+		t.Skip("only for BenchmarkAttach")
 	}
-	return time.Duration(used.Utime.Nano() + used.Stime.Nano())
+	behind := upstreamtest.Start(t, filepath.Join(os.Getenv(driverIn), "upstream.sock"))
+	behind.Forgets, behind.Work, behind.ID = true, work(t), func(name string) string { return name }
+	bufio.NewReader(os.Stdin).ReadByte()
 }
 
-// grown is after how many commits SQLite's log is as large as it gets, 1,000 pages: from then on it is written over, which a disk syncs in half the time.
-const grown = 600
-
-// benchmarkAttach gives the median time of a call.
-func benchmarkAttach(b *testing.B, work func(), clients int, through bool) time.Duration {
-	box := newBox(b, upstream.Options{}).start()
-	box.behind.Forgets = true
-	client := box.client
-	if !through {
-		client = upstreamtest.Dial(b, filepath.Join(box.folder, "upstream.sock"))
+// startUpstream starts one as a process of its own, in a folder.
+func startUpstream(b *testing.B, folder, work string) *exec.Cmd {
+	running := exec.Command(os.Args[0], "-test.run", "^TestUpstream$")
+	running.Env = append(os.Environ(), workIs+"="+work, driverIn+"="+folder)
+	running.Stderr = os.Stderr
+	input, err := running.StdinPipe()
+	if err == nil {
+		err = running.Start()
 	}
-	call := func(client *grpc.ClientConn, method string, message proto.Message) time.Duration {
-		request, err := proto.Marshal(message)
-		began := time.Now()
+	if err != nil {
+		b.Fatal(err)
+	}
+	b.Cleanup(func() { input.Close(); running.Wait() })
+	for end := time.Now().Add(within); ; time.Sleep(time.Millisecond) {
+		connection, err := net.Dial("unix", filepath.Join(folder, "upstream.sock"))
 		if err == nil {
-			_, err = passing.Call(context.Background(), client, method, request)
+			connection.Close()
+			return running
 		}
-		if err != nil {
-			b.Error(err)
-		}
-		return time.Since(began)
-	}
-	box.behind.ID = func(name string) string { return name }
-	for at := 0; at < clients; at++ {
-		call(box.client, createCall, creates(fmt.Sprint("v", at)))
-	}
-	if through {
-		for at := 0; at < grown/2; at++ {
-			call(box.client, attachCall, attaches("v0", "n1", writer))
-			call(box.client, detachCall, detaches("v0", "n1"))
+		if time.Now().After(end) {
+			b.Fatal(err)
 		}
 	}
-	box.behind.Work = work
+}
+
+// processors is how long a process has had the processors.
+func processors(b *testing.B, process int) time.Duration {
+	var used unix.Timespec
+	if err := unix.ClockGettime(int32(^process<<3|2), &used); err != nil { // as clock_getcpuclockid(3) has it
+		b.Fatal(err)
+	}
+	return time.Duration(used.Nano())
+}
+
+// A turn is what came of one: how long calls took, how many there were in a second, and how long clients, upstream and driver had the processors for one.
+type turn struct {
+	took    []float64 // in milliseconds, in order
+	persec  float64
+	microes [3]float64
+}
+
+func call(b *testing.B, client *grpc.ClientConn, method string, message proto.Message) {
+	request, err := proto.Marshal(message)
+	if err == nil {
+		_, err = passing.Call(context.Background(), client, method, request)
+	}
+	if err != nil {
+		b.Error(err)
+	}
+}
+
+// turnAt has clients attach and detach a volume each, again and again.
+func turnAt(b *testing.B, client *grpc.ClientConn, clients int, processes [3]int) (came turn) {
 	var mutex sync.Mutex
 	var all sync.WaitGroup
-	var took []time.Duration
-	left := int64(b.N)
-	b.ResetTimer()
-	began, busy := time.Now(), processors()
+	end := time.Now().Add(turnLasts)
+	counts := end.Add(-isCounted)
 	for at := 0; at < clients; at++ {
 		all.Add(1)
 		go func(id string) {
 			defer all.Done()
-			for atomic.AddInt64(&left, -2) >= -1 {
-				its := []time.Duration{call(client, attachCall, attaches(id, "n1", writer)), call(client, detachCall, detaches(id, "n1"))}
-				mutex.Lock()
-				took = append(took, its...)
-				mutex.Unlock()
+			var took []float64
+			for isAttach, began := true, time.Now(); began.Before(end) || !isAttach; isAttach = !isAttach {
+				if isAttach {
+					call(b, client, attachCall, attaches(id, "n1", writer))
+				} else {
+					call(b, client, detachCall, detaches(id, "n1"))
+				}
+				now := time.Now()
+				if now.After(counts) && now.Before(end) {
+					took = append(took, float64(now.Sub(began))/1e6)
+				}
+				began = now
 			}
+			mutex.Lock()
+			defer mutex.Unlock()
+			came.took = append(came.took, took...)
 		}(fmt.Sprint("v", at))
 	}
-	all.Wait()
-	sort.Slice(took, func(i, j int) bool { return took[i] < took[j] })
-	if len(took) == 0 {
-		return 0
+	time.Sleep(time.Until(counts))
+	var before, behind [3]time.Duration
+	for at, it := range processes {
+		before[at] = processors(b, it)
 	}
-	b.ReportMetric(float64(len(took))/time.Since(began).Seconds(), "calls/s")
-	b.ReportMetric(float64(took[len(took)/2])/1e6, "median-ms")
-	b.ReportMetric(float64(processors()-busy)/float64(len(took))/1e3, "processor-us")
-	return took[len(took)/2]
+	time.Sleep(time.Until(end))
+	for at, it := range processes {
+		behind[at] = processors(b, it)
+	}
+	all.Wait()
+	sort.Float64s(came.took)
+	came.persec = float64(len(came.took)) / isCounted.Seconds()
+	for at := range processes {
+		came.microes[at] = float64(behind[at]-before[at]) / 1e3 / float64(len(came.took))
+	}
+	return came
+}
+
+// median is of values that are put in order.
+func median(all []float64) float64 {
+	sort.Float64s(all)
+	return (all[(len(all)-1)/2] + all[len(all)/2]) / 2
+}
+
+// errorOf is the standard error of the median of these: half of how far those are apart that are as many places above it and below it as a coin that is thrown
+// for each is above or below its mean.
+func errorOf(all []float64) float64 {
+	sort.Float64s(all)
+	places, middle := math.Sqrt(float64(len(all)))/2, float64(len(all)-1)/2
+	above, below := math.Min(math.Ceil(middle+places), float64(len(all)-1)), math.Max(math.Floor(middle-places), 0)
+	return (all[int(above)] - all[int(below)]) / 2
+}
+
+func benchmarkAttach(b *testing.B, work string, clients int) {
+	box := &box{TB: b, folder: b.TempDir(), config: noNodes, end: func() {}}
+	behind := startUpstream(b, box.folder, work)
+	driver := box.run()
+	b.Cleanup(func() { driver.Process.Signal(unix.SIGTERM); driver.Wait() })
+	at := [2]*grpc.ClientConn{
+		upstreamtest.Dial(b, filepath.Join(box.folder, "upstream.sock")), upstreamtest.Dial(b, filepath.Join(box.folder, "d", "csi.sock")),
+	}
+	var made sync.WaitGroup
+	for volume := 0; volume < clients; volume++ {
+		call(b, at[1], createCall, creates(fmt.Sprint("v", volume)))
+		made.Add(1)
+		go func(id string) {
+			defer made.Done()
+			for count := 0; count < grown/2; count += clients {
+				call(b, at[1], attachCall, attaches(id, "n1", writer))
+				call(b, at[1], detachCall, detaches(id, "n1"))
+			}
+		}(fmt.Sprint("v", volume))
+	}
+	made.Wait()
+	processes := [3]int{os.Getpid(), behind.Process.Pid, driver.Process.Pid}
+	count, err := strconv.Atoi(os.Getenv(pairsKey))
+	if err != nil {
+		count = pairs
+	}
+	var times []float64
+	var took, persec [2][]float64
+	var microes [2][3][]float64
+	for pair := 0; pair < count; pair++ {
+		var middles [2]float64
+		for _, which := range [][]int{{0, 1}, {1, 0}}[pair%2] {
+			came := turnAt(b, at[which], clients, processes)
+			if len(came.took) == 0 {
+				b.Fatal("no call ended in a turn")
+			}
+			middles[which] = median(came.took)
+			took[which], persec[which] = append(took[which], middles[which]), append(persec[which], came.persec)
+			for of, micro := range came.microes {
+				microes[which][of] = append(microes[which][of], micro)
+			}
+		}
+		times = append(times, middles[1]/middles[0])
+	}
+	b.ReportMetric(0, "ns/op") // which would be that of pairs of turns
+	b.ReportMetric(median(took[0]), "alone-ms")
+	b.ReportMetric(median(took[1]), "through-ms")
+	b.ReportMetric(median(times), "times")
+	b.ReportMetric(errorOf(times), "times-error")
+	b.ReportMetric(median(persec[0]), "alone-calls/s")
+	b.ReportMetric(median(persec[1]), "through-calls/s")
+	for which, of := range []string{"alone", "through"} {
+		for at, its := range []string{"client", "upstream", "driver"} {
+			if which == 1 || at < 2 {
+				b.ReportMetric(median(microes[which][at]), of+"-"+its+"-us")
+			}
+		}
+	}
 }

@@ -8,6 +8,7 @@ import (
 	"os/exec"
 	"os/signal"
 	"path/filepath"
+	"runtime/pprof"
 	"syscall"
 	"testing"
 
@@ -27,7 +28,7 @@ const (
 // TestMain is a driver, or the tests.
 func TestMain(m *testing.M) {
 	folder := os.Getenv(driverIn)
-	if folder == "" {
+	if folder == "" || os.Getenv(workIs) != "" {
 		os.Exit(m.Run())
 	}
 	box := &box{folder: folder, metadata: os.Getenv(byMetadata) != "", config: noNodes, etcd: os.Getenv(etcdAt), socket: os.Getenv(socketIs)}
@@ -36,6 +37,7 @@ func TestMain(m *testing.M) {
 	if err == nil {
 		it.Say = func(line string) { fmt.Println(line) }
 		ctx, _ := signal.NotifyContext(context.Background(), syscall.SIGTERM)
+		defer profiled()()
 		err = life.New(it).Run(ctx)
 	}
 	if err != nil {
@@ -70,4 +72,14 @@ func (box *box) run() *exec.Cmd {
 	}
 	box.sockets[running] = box.socket
 	return running
+}
+
+// profiled has the driver of a benchmark be profiled, until that ends, where the environment asks for it.
+func profiled() (end func()) {
+	if folder := os.Getenv(profilesKey); folder != "" {
+		if file, err := os.Create(filepath.Join(folder, fmt.Sprint("driver-", os.Getpid()))); err == nil && pprof.StartCPUProfile(file) == nil {
+			return pprof.StopCPUProfile
+		}
+	}
+	return func() {}
 }

@@ -8,11 +8,14 @@ import (
 	"sort"
 	"time"
 
+	"tufayon/service/history"
 	"tufayon/service/host"
 )
 
 const (
-	together    = 200 * time.Millisecond // so long changes are gathered
+	together    = 200 * time.Millisecond // so long changes are gathered at least,
+	share       = 50                     // and so many times as long as it took to tell the last ones,
+	mostRest    = 2 * time.Second        // but no longer than this
 	beat        = time.Second            // how often plugins are looked at
 	mostSilent  = 5 * time.Second        // and told, with the time, at the latest
 	mostVolumes = 512                    // in one message
@@ -31,6 +34,7 @@ type stream struct {
 	when   time.Time // that was
 	count  uint64    // of the host's events, up to which changes were told
 	behind uint64    // entries
+	bytes  []byte    // room for a message
 }
 
 // message is what is told at once.
@@ -41,8 +45,9 @@ type message struct {
 	Volumes   []volume `json:"volumes,omitempty"`   // as they are now
 	Forgotten []string `json:"forgotten,omitempty"` // names that are free again
 	Plugins   []plugin `json:"plugins,omitempty"`   // all
-	Entries   []entry  `json:"entries,omitempty"`   // what happened
 	IsWhole   bool     `json:"whole,omitempty"`     // all volumes were told
+
+	entries []history.Entry // what happened: `entries`, of which there are many, so that they are written one by one
 }
 
 type begin struct {
@@ -84,7 +89,13 @@ func (it *stream) send(message message) {
 	message.Now = time.Now().UnixMilli()
 	bytes, err := json.Marshal(message)
 	if err == nil && it.err == nil {
-		_, err = it.to.Write(append(append([]byte("data: "), bytes...), "\n\n"...))
+		it.bytes = append(append(it.bytes[:0], "data: "...), bytes...)
+		if len(message.entries) > 0 {
+			it.bytes = append(it.bytes[:len(it.bytes)-len("}")], `,"entries":[`...)
+			it.bytes = append(appendEntries(it.bytes, message.entries), "]}"...)
+		}
+		it.bytes = append(it.bytes, "\n\n"...)
+		_, err = it.to.Write(it.bytes)
 		it.flusher.Flush()
 	}
 	if it.err == nil {
@@ -116,10 +127,22 @@ func sleep(ctx context.Context, long time.Duration) {
 	}
 }
 
+// rest is how long a page waits behind what took so long to tell: so it takes a fiftieth of a processor at most.
+func rest(took time.Duration) time.Duration {
+	switch long := share * took; {
+	case long < together:
+		return together
+	case long > mostRest:
+		return mostRest
+	default:
+		return long
+	}
+}
+
 // follow tells all, and then what changes, until the host ends. It looks for that by itself, so that nothing that happens is kept up by it.
 func (it *stream) follow(ctx context.Context, leads *host.Host) {
 	it.begins(leads)
-	tick := time.NewTicker(together)
+	tick := time.NewTimer(together)
 	defer tick.Stop()
 	for looked := time.Now(); it.err == nil; {
 		select {
@@ -130,13 +153,15 @@ func (it *stream) follow(ctx context.Context, leads *host.Host) {
 		case <-ctx.Done():
 			return
 		}
+		began := time.Now()
 		if !it.changes(leads) {
 			return
 		}
-		if time.Since(looked) >= beat {
-			looked = time.Now()
+		if began.Sub(looked) >= beat {
+			looked = began
 			it.plugins(leads)
 		}
+		tick.Reset(rest(time.Since(began)))
 	}
 }
 
@@ -150,7 +175,7 @@ func (it *stream) begins(leads *host.Host) {
 	rest := it.sendMost(present.Volumes)
 	it.send(message{Volumes: volumesOf(rest), IsWhole: true})
 	if entries := it.entries(); len(entries) > 0 {
-		it.send(message{Entries: entries})
+		it.send(message{entries: entries})
 	}
 }
 
@@ -177,8 +202,8 @@ func (it *stream) changes(leads *host.Host) bool {
 		return false
 	}
 	it.count = changes.Count
-	told := message{Volumes: volumesOf(it.sendMost(changes.Volumes)), Forgotten: changes.Forgotten, Entries: it.entries()}
-	if len(told.Volumes)+len(told.Forgotten)+len(told.Entries) > 0 {
+	told := message{Volumes: volumesOf(it.sendMost(changes.Volumes)), Forgotten: changes.Forgotten, entries: it.entries()}
+	if len(told.Volumes)+len(told.Forgotten)+len(told.entries) > 0 {
 		told.Session = changes.Session
 		it.send(told)
 	}
@@ -186,13 +211,10 @@ func (it *stream) changes(leads *host.Host) bool {
 }
 
 // entries are what happened since the last time, of which only the last ones are shown.
-func (it *stream) entries() (entries []entry) {
+func (it *stream) entries() []history.Entry {
 	last, count, _ := it.source.History.Last("", mostEntries, it.behind)
 	it.behind = count
-	for at := range last {
-		entries = append(entries, entryOf(&last[at]))
-	}
-	return entries
+	return last
 }
 
 // plugins tells how it stands with them, where that changed, or it was told long ago.

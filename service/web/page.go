@@ -86,18 +86,15 @@ func (page *Page) volume(to http.ResponseWriter, request *http.Request) {
 		http.Error(to, "this service doesn't lead", http.StatusServiceUnavailable)
 		return
 	}
-	answer := struct {
+	var answer struct {
 		Volume  *volume `json:"volume"`
-		Entries []entry `json:"entries"`
-	}{Entries: []entry{}}
+		Entries entries `json:"entries"`
+	}
 	if there, isThere := leads.Get(name); isThere {
 		shown := volumeOf(there)
 		answer.Volume = &shown
 	}
-	last, _, _ := page.source.History.Last(name, mostEntries, 0)
-	for at := range last {
-		answer.Entries = append(answer.Entries, entryOf(&last[at]))
-	}
+	answer.Entries, _, _ = page.source.History.Last(name, mostEntries, 0)
 	to.Header().Set("Content-Type", "application/json")
 	json.NewEncoder(to).Encode(answer)
 }

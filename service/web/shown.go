@@ -1,7 +1,9 @@
 package web
 
 import (
+	"encoding/json"
 	"sort"
+	"strconv"
 	"strings"
 
 	"tufayon/service/carrying"
@@ -115,16 +117,45 @@ func (source *Source) plugins(leads *host.Host) []plugin {
 	return list
 }
 
-// An entry is one of the history's as the page gets it.
-type entry struct {
-	Time    int64  `json:"time"`
-	Session uint64 `json:"session"`
-	What    string `json:"what"`
-	Name    string `json:"name,omitempty"`
-	Text    string `json:"text"`
-	IsWrong bool   `json:"wrong,omitempty"`
+// entries are the history's as the page gets them.
+type entries []history.Entry
+
+// MarshalJSON gives the list of them.
+func (all entries) MarshalJSON() ([]byte, error) {
+	return append(appendEntries([]byte{'['}, all), ']'), nil
 }
 
-func entryOf(it *history.Entry) entry {
-	return entry{Time: it.Time, Session: it.Session, What: it.What, Name: it.Name, Text: it.Text(), IsWrong: it.IsWrong()}
+// appendEntries appends them in JSON, with commas between.
+func appendEntries(to []byte, all []history.Entry) []byte {
+	var text []byte
+	for at := range all {
+		it := &all[at]
+		if at > 0 {
+			to = append(to, ',')
+		}
+		to = strconv.AppendInt(append(to, `{"time":`...), it.Time, 10)
+		to = strconv.AppendUint(append(to, `,"session":`...), it.Session, 10)
+		to = appendText(append(to, `,"what":`...), []byte(it.What))
+		if it.Name != "" {
+			to = appendText(append(to, `,"name":`...), []byte(it.Name))
+		}
+		text = it.AppendText(text[:0])
+		to = appendText(append(to, `,"text":`...), text)
+		if it.IsWrong() {
+			to = append(to, `,"wrong":true`...)
+		}
+		to = append(to, '}')
+	}
+	return to
+}
+
+// appendText appends a text in JSON.
+func appendText(to, text []byte) []byte {
+	for _, it := range text {
+		if it < ' ' || it > '~' || it == '"' || it == '\\' {
+			bytes, _ := json.Marshal(string(text)) // a text always can be
+			return append(to, bytes...)
+		}
+	}
+	return append(append(append(to, '"'), text...), '"')
 }

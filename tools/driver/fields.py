@@ -248,12 +248,12 @@ def by_number(box):
             content = request(**given).SerializeToString()
             if name != "ValidateVolumeCapabilities":
                 driver.wants((9, "number"), name, content + UNKNOWN)
-            driver.wants((3, "unknown field"), name, content + UNKNOWN, (1000001, 1))
+            driver.wants((3, "unknown field"), name, content + UNKNOWN, (10000001, 1))
             if text:
-                driver.wants((3, text.removesuffix("_range")), name, content, (1000001, 1))
+                driver.wants((3, text.removesuffix("_range")), name, content, (10000001, 1))
             count += 3
         undoes = name.startswith("Delete") or "Un" in name
-        driver.wants((9, "session") if name == "CreateVolume" else 0 if undoes else (5, "volume"), name, content, (1000001, 1))
+        driver.wants((9, "session") if name == "CreateVolume" else 0 if undoes else (5, "volume"), name, content, (10000001, 1))
     for given, text in mended(MOUNT):
         for mode, right in ((0, text or "access_mode"), (1, text)):
             made = csi_pb2.VolumeCapability(mount=given, access_mode={"mode": mode})
@@ -268,11 +268,11 @@ def numbers(box):
     driver = box.controller()
     for number in (None, "1", "1.", ".1", "1.x", "01.1", "1.1 ", "1.1.1", "-1.1", f"{1 << 64}.1"):
         driver.wants((9, "number"), "CreateVolume", create("v"), number)
-    driver.wants((9, "session"), "CreateVolume", create("v"), (1000001, 1))
-    driver.wants(0, "CreateVolume", create("v"), (1000000, 1))
-    driver.wants((9, "session"), "CreateVolume", create("w"), (2000001, 1))
-    driver.wants((10, "stale"), "CreateVolume", create("w"), (999999, 9))
-    driver.wants(0, "CreateVolume", create("w"), (2000000, 1))
+    driver.wants((9, "session"), "CreateVolume", create("v"), (10000001, 1))
+    driver.wants(0, "CreateVolume", create("v"), (10000000, 1))
+    driver.wants((9, "session"), "CreateVolume", create("w"), (20000001, 1))
+    driver.wants((10, "stale"), "CreateVolume", create("w"), (9999999, 9))
+    driver.wants(0, "CreateVolume", create("w"), (20000000, 1))
     wanted("the status", driver.stop(), 0)
     driver = box.controller("--sessions-above", "0")
     driver.wants(0, "CreateVolume", create("u"), ((1 << 64) - 1, 1))
@@ -291,7 +291,7 @@ def replies(box):
         (6, create("v", 20), (1, 2), "1.2"),
         (3, create(""), (1, 3), None),
         (9, create("w"), None, None),
-        (9, create("w"), (2000000, 1), None),
+        (9, create("w"), (20000000, 1), None),
     ):
         call = driver.start("CreateVolume", request, number)
         wanted(f"{request!s} {number}", ended(call)[0], right)

@@ -76,9 +76,9 @@ def joined(box):
 
 def sessions_above(box):
     """How far a call's session may be above the latest one is counted from that of the joining."""
-    for name, session, status in (("n1", None, (9, "session")), ("n2", 1000000, (0, ""))):
+    for name, session, status in (("n1", None, (9, "session")), ("n2", 10000000, (0, ""))):
         driver = box.node(node=name, session=session)
-        driver.wants(status, "NodeStageVolume", stage(1), (1000001, 1))
+        driver.wants(status, "NodeStageVolume", stage(1), (10000001, 1))
 
 
 def earlier_session(box):

@@ -236,7 +236,8 @@ def watch(system):
 def leader(system):
     """The machine of the orchestrator that leads, as systemd is told."""
     for number in system.of("orchestrator"):
-        if "leads" in system[number](f"systemctl show -P StatusText tufayon-orchestrator@{SET} tufayon-controller@{SET}")[1]:
+        said = system[number](f"systemctl show -P StatusText tufayon-orchestrator@{SET} tufayon-controller@{SET}")[1]
+        if "leads" in said.split("\n")[0]:  # the orchestrator's
             return number
     raise Failed("nobody leads")
 
@@ -294,7 +295,7 @@ def listed(system, without):
 
 
 def add(system, packages):
-    """A machine more is a node, and goes again."""
+    """A machine more is a node, another orchestrator leads, and the machine goes again."""
     listed_on, line = (*THREE, 6), f'{{"id": "m6", "slots": 128, "address": "{NETWORK}.6:7002"}}'
     machine = system.machines[6] = system.spare
     machine.start()
@@ -306,6 +307,8 @@ def add(system, packages):
         system[number](f"sed -i.before 's|^ *{{\"id\": \"m5\".*|&,\\n    {line}|' {FILES}/set.json")
     machine(f"tufayon-node --check {FILES}/node.json && systemctl enable --now tufayon-node@{SET}")
     read_anew(system, lambda said: "node:m6 " in said)
+    reached(system)
+    system[leader(system)](f"systemctl restart tufayon-orchestrator@{SET}")  # another leads, which has read the files anew too
     reached(system)
     system.told("create u --size 1G --wait", "u .* yes")
     soon("a use at the new node", lambda: system.ask("use u m6 /srv/u --wait", check=False)[0] == 0)

@@ -35,6 +35,7 @@ type Plugin struct {
 	// says so of that volume.
 	Troubles chan string
 	Confirms func(heard frames.Number) error // asked for with each of these, where it isn't nil
+	Forgets  bool                            // it doesn't keep which calls came
 
 	Address string
 	Health  *health.Server
@@ -94,9 +95,11 @@ func (plugin *Plugin) judge(ctx context.Context, request any, info *grpc.UnarySe
 		return handle(ctx, request)
 	}
 	call := info.FullMethod[strings.LastIndex(info.FullMethod, "/")+1:]
-	plugin.mutex.Lock()
-	plugin.calls = append(plugin.calls, call)
-	plugin.mutex.Unlock()
+	if !plugin.Forgets {
+		plugin.mutex.Lock()
+		plugin.calls = append(plugin.calls, call)
+		plugin.mutex.Unlock()
+	}
 	var err error
 	isReply := !plugin.Silent
 	if plugin.Judge != nil {

@@ -55,5 +55,6 @@ func run(ctx context.Context, words []string, output io.Writer) error {
 		return err
 	}
 	defer log.Sync()
+	daemon.CollectSeldom()
 	return serve(ctx, read, log)
 }
