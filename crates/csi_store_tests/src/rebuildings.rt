@@ -118,10 +118,7 @@ const CASES: &[Case] = &[
 // The records of nodes, and why they don't go with the controller's, if they don't.
 const NODES: &[(&[&[u8]], Option<RecoveryFault>)] = &[
     (&[FIRST, SECOND], None),
-    (
-        &[FIRST, LATER, FIRST],
-        Some(RecoveryFault::SameNode(3)),
-    ),
+    (&[FIRST, LATER, FIRST], Some(RecoveryFault::SameNode(3))),
     (&[FIRST, LATER], Some(RecoveryFault::NotLater)),
     (&[FIRST, OTHERWISE], Some(RecoveryFault::Disagrees(2))),
 ];
@@ -168,7 +165,10 @@ fn comes(
 #[test]
 fn a_controller_is_made_of_its_orchestrator(rt: HostRuntime) {
     for (place, case) in CASES.iter().enumerate() {
-        assert!(&rt; comes(&rt, case.kept, case.next_id, case.wanted), "case {place}");
+        assert!(&rt;
+            comes(&rt, case.kept, case.next_id, case.wanted),
+            "case {place}"
+        );
     }
 }
 
@@ -194,17 +194,13 @@ const KEPT_HEAD: &[u8] = &[
 
 const KEPT_ROW: [&[u8]; 3] = [
     &[0, 0, 0, 51, 3, 4],
-    &[
-        0, 0, 0, 0, 0, 0, 0, 10, 0, 0, 0, 0, 0, 0, 0, 0, 1, 0, 5, 1,
-    ],
-    &[
-        1, 0, 0, 1, 2, 110, 49, 0, 5, 0, 1, 1, 1, 2, 47, 97, 1,
-    ],
+    &[0, 0, 0, 0, 0, 0, 0, 10, 0, 0, 0, 0, 0, 0, 0, 0, 1, 0, 5, 1],
+    &[1, 0, 0, 1, 2, 110, 49, 0, 5, 0, 1, 1, 1, 2, 47, 97, 1],
 ];
 
 const MADE_HEAD: &[u8] = &[
-    3, 0, 0, 16, 1, 0, 0, 0, 0, 0, 0, 0, 0, 0, 0, 0, 18, 3, 0, 0, 0, 0, 0, 0, 0, 16, 1, 0, 0, 0,
-    0, 0, 0, 0, 8,
+    3, 0, 0, 16, 1, 0, 0, 0, 0, 0, 0, 0, 0, 0, 0, 0, 18, 3, 0, 0, 0, 0, 0, 0, 0, 16, 1, 0, 0, 0, 0,
+    0, 0, 0, 8,
 ];
 
 const MADE_ROW: [&[u8]; 3] = [
