@@ -220,7 +220,7 @@ fn add_row(
     volume: u64,
     [front, middle, rest]: [&[u8]; 3],
 ) {
-    let name = 9999 - volume;
+    let name = 9999_u64.saturating_sub(volume);
     let text = format!(in rt.alloc(); "{name}").expect(rt, "memory");
     let (place, id) = (key.to_be_bytes(), volume.to_be_bytes());
     for bytes in [&place[..], front, text.as_bytes(), middle, &id[..], rest] {
