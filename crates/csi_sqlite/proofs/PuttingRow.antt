@@ -1,47 +1,44 @@
--- What the statement that puts a row in does: the row of its key gets the value, or else the row goes under a new rowid.
-use Rattle.std.proofs.Common.{◌≡◌, inl, inr, ℕ, ℤ, List, [], ◌∷◌, map, drop, filter, not, bytes_eq, Less, IsPermutation, ap₂, ◌&&◌, ◌||◌, Bool, true, false, cond, Option, Some, None, Ok, refl, sym, ap, subst, ◌∙◌}
+-- What the two statements that put a row in do: the row of its key gets the value, or else the row goes under a new rowid.
+use Rattle.std.proofs.Common.{IsTrue, ◌≡◌, ◌==◌, inl, inr, ℕ, zero, suc, ℤ, List, [], ◌∷◌, map, drop, filter, not, length, bytes_eq, Less, IsPermutation, ap₂, Bool, true, false, cond, None, Ok, refl, sym, ap, subst, subst₂, ◌∙◌, unwrap_or, arith}
 use Rattle.std.specs.Ordering.{is_eq}
-use Rattle.std.proofs.lemmas.Bool.{and_parts, not-true, false_from_ne_true}
+use Rattle.std.proofs.lemmas.Bool.{and_parts, not-true, false_from_ne_true, ne_eqb}
+use Rattle.std.proofs.lemmas.Cmp.{tied_itself}
+use Rattle.std.proofs.lemmas.Slice.Eq.{bytes_eq-Decides}
+use Rattle.std.proofs.lemmas.List.Sorted.{IsPermutation-sym}
 use Rattle.sqlite_value.specs.declared.value.Value.{Value}
 use Rattle.sqlite_value.specs.declared.value.Value.TheVariants.{Null, Int, Blob}
 use Rattle.sqlite_value.specs.Order.{Row, column, value_cmp}
 use Rattle.sqlite_value.proofs.OrderLemmas.{value_cmp_total}
-use Rattle.std.proofs.lemmas.Cmp.{tied_itself}
-use Rattle.std.proofs.lemmas.Slice.Eq.{bytes_eq-Decides}
-use Rattle.sqlite_value.specs.Keys.{first_key}
-use Rattle.sqlite_value.specs.declared.keys.Collation.TheVariants.{Binary}
 use Rattle.sqlite_trees.specs.Tree.{Trees, rowid, put_row}
-use Rattle.sqlite_sql.specs.Ops.{unary, binary, is_true, from_truth}
+use Rattle.sqlite_sql.specs.Ops.{unary}
 use Rattle.sqlite_schema.specs.declared.schema.Kind.TheVariants.{Integer}
 use Rattle.sqlite_schema.specs.declared.schema.Keys.TheVariants.{Enforced}
-use Rattle.sqlite_schema.specs.declared.command.Conflict.TheVariants.{Abort}
-use Rattle.sqlite_schema.specs.Rules.{equal}
-use Rattle.sqlite_rules.specs.declared.error.Refusal.{Refusal}
 use Rattle.sqlite_rules.specs.declared.error.Rowids.TheVariants.{Chosen, Given}
-use Rattle.sqlite_rules.specs.Cast.{cast, cast_row}
-use Rattle.sqlite_rules.specs.Keys.{AreConflicts, conflicts}
+use Rattle.sqlite_rules.specs.Cast.{cast}
 use Rattle.sqlite_rules.specs.Lists.{Has}
 use Rattle.sqlite_rules.specs.Edit.{Edit, edit_of, with_rowid, next_rowid, without_all, is_taken}
 use Rattle.sqlite_rules.specs.Calls.{ids_of}
-use Rattle.sqlite_rules.proofs.ListLemmas.{all_from}
+use Rattle.sqlite_rules.proofs.ListLemmas.{all_from, has_filtered, has_kept}
 use Rattle.sqlite_rules.proofs.ProbeLemmas.{mapped_has}
 use Rattle.sqlite_rules.specs.Action.{Writes}
 use Rattle.sqlite_keyed.proofs.ListLemmas.{filter_all}
 use Rattle.sqlite.specs.Source.TheVariants.{Values}
-use Rattle.sqlite.specs.Command.TheVariants.{InsertOr}
+use Rattle.sqlite.specs.Command.TheVariants.{Insert, Update}
 use Rattle.sqlite.specs.Does.{Tally, Does}
-use Rattle.sqlite.specs.Rows.{Part, Task, Written, nothing, TriesEach, Judged, Upserts, Meets, Clears, Puts, Updates, count_of}
+use Rattle.sqlite.specs.Rows.{Written}
 use Rattle.sqlite.specs.Listing.{understood}
-use Rattle.sqlite.specs.Effect.{Database}
+use Rattle.sqlite.specs.Effect.{Database, IsDatabase}
 use Rattle.sqlite.specs.State.{State, mode_of, Executes}
 use Rattle.sqlite.proofs.Callers.{statement_of, runs_as, one_step}
 use Rattle.csi_sqlite.specs.Public.Declared.{parts_table, parts_schema}
 use Rattle.csi_sqlite.specs.Public.Rows.{KeyedRow, cells, AreRows, StoresRows, HasRows, without}
-use Rattle.csi_sqlite.proofs.TextMeanings.{put_statement, put_terms, put_clause, update_query, put_is, put_plain}
-use Rattle.csi_sqlite.proofs.StoredRows.{has_key, has_key-row, has_key-cells, id_of, AreIdsOf, keyed, one_row, taken_out, are_kept, are_more}
+use Rattle.csi_sqlite.specs.Private.Changing.{changed_rows, ChangesOrNot}
+use Rattle.csi_sqlite.specs.Public.Statements.{Changes}
+use Rattle.csi_sqlite.proofs.TextMeanings.{change_statement, insert_statement, insert_terms, change_query, change_is, change_plain, insert_is, insert_plain}
+use Rattle.csi_sqlite.proofs.StoredRows.{has_key, has_key-cells, id_of, AreIdsOf, keyed, taken_out, are_kept, are_more}
 use Rattle.csi_sqlite.proofs.ListFacts.{permuted_one, filter_one}
 use Rattle.csi_sqlite.proofs.Keys.{first_column, one_key}
-use Rattle.csi_sqlite.proofs.QueryAnswers.{unmapped, has_permuted, updated, is_numbered, updated_rows}
+use Rattle.csi_sqlite.proofs.QueryAnswers.{unmapped, has_permuted, changed, found_rows}
 use Rattle.csi_sqlite.proofs.MakingTable.{went, same_value, now_has}
 
 -- a choice between a value and itself is that value
@@ -59,23 +56,6 @@ cast_int : (n : ℤ) → cast Integer (Int n) ≡ Int n
 unfolding unary
 cast_int n = either _ (Int n)
 
--- SQL's = of two integers says whether they compare equal
-eq_ints : (a b : ℤ) → equal Binary (Int a) (Int b) ≡ is_eq (value_cmp (Int a) (Int b))
-unfolding binary
-eq_ints a b = elim (is_eq (value_cmp (Int a) (Int b))) as (λ t. is_true (from_truth (Some t)) ≡ t) [ true ↦ refl | false ↦ refl ]
-
--- ---- the rows that are in the way
-
--- a flag, and true, or else false, is the flag
-alone : (b : Bool) → ((b && true) || false) ≡ b
-alone true = refl
-alone false = refl
-
--- a row is in the way of a new one where it has its key
-conflict_is : (key value : List ℕ) (id : ℤ) (r : Row) → conflicts (Some (1 ∷ [])) parts_schema.indexes parts_table (Int id ∷ Blob key ∷ Blob value ∷ []) r ≡ has_key key (drop 1 r)
-unfolding parts_schema parts_table first_key
-conflict_is key value id r = alone (equal Binary (column r 1) (Blob key)) ∙ has_key-row key r
-
 -- a row of that key has it as its first column
 key_is : (key : List ℕ) (stored : List Row) (rows : List KeyedRow) → AreRows stored (map cells rows) → (r : Row) → Has stored r → has_key key (drop 1 r) ≡ true → column r 1 ≡ Blob key
 key_is key stored rows are r h passing =
@@ -89,166 +69,165 @@ pub record IsPut (key value : List ℕ) (stored left : List Row) : Type 0 where
   pub is : left ≡ put_row (Int id ∷ Blob key ∷ Blob value ∷ []) (filter (λ r. not (has_key key (drop 1 r))) stored)
   pub fresh : is_taken (filter (λ r. not (has_key key (drop 1 r))) stored) (Int id ∷ Blob key ∷ Blob value ∷ []) ≡ false
 
--- ---- one row
+-- ---- the row of a key is changed
 
-module _ (limit : Option ℕ) (params : Row) where
-  -- the insert, as SQLite carries it out
-  abbrev task : Task
-  task = record { limit = limit; keys = Enforced; schema = parts_schema; table = parts_table; params = params }
+-- the edit that puts a row in place of the one of its rowid
+abbrev changing : Trees → ℤ → List ℕ → List ℕ → Edit
+changing db id key value = edit_of db parts_table (ids_of ((Int id ∷ Int id ∷ Blob key ∷ Blob value ∷ []) ∷ [])) Given 1 ((Int id ∷ Int id ∷ Blob key ∷ Blob value ∷ []) ∷ [])
 
-  -- an insert that isn't refused goes on by its conflict clause
-  judged_on : (verdict : Option Refusal) (new : Row) (db : Trees) (out : Written) → Judged task Abort (put_clause ∷ []) new db verdict (Ok out) → Upserts task Abort new db (put_clause ∷ []) (Ok out)
-  judged_on None new db out h = h
-  judged_on (Some why) new db out h = absurd (let e = h in cc)
+-- where a row is put in place of the one of its rowid, the table has it so
+placed : (db next : Trees) (id : ℤ) (key value : List ℕ) → Writes parts_schema Enforced db (changing db id key value) (Ok next)
+    → (next 0 ≡ put_row (Int id ∷ Blob key ∷ Blob value ∷ []) (without_all (db 0) (id ∷ []))) × (is_taken (without_all (db 0) (id ∷ [])) (Int id ∷ Blob key ∷ Blob value ∷ []) ≡ false)
+unfolding parts_schema parts_table
+placed db next id key value h =
+    let applied = one_step parts_schema Enforced db next (changing db id key value) refl h in
+    let row = λ (v : Value). v ∷ Blob key ∷ Blob value ∷ [] in (
+      applied.rows ∙ ap (λ v. put_row (row v) (without_all (db 0) (id ∷ []))) (cast_int id),
+      ap (λ v. is_taken (without_all (db 0) (id ∷ [])) (row v)) (sym (cast_int id)) ∙ not-true _ (and_parts _ _ applied.fresh).0,
+    )
 
-  -- where no row is in the way, the row is put
-  cleared : (row : Row) (db : Trees) (found : List Row) (out : Written) → Clears task Abort row db found (Ok out) → Puts task row db (Ok out)
-  cleared row db [] out h = h
-  cleared row db (x ∷ more) out h = h
+module _ (key value : List ℕ) (db : Trees) (rows : List KeyedRow) (stores : StoresRows db rows) where
+  abbrev params : Row
+  params = Blob key ∷ Blob value ∷ []
 
-  -- where this row is put, the table has it besides, and its rowid was free
-  placed : (id : ℤ) (key value : List ℕ) (mid : Trees) (out : Written) → Puts task (Int id ∷ Blob key ∷ Blob value ∷ []) mid (Ok out)
-      → (out.trees 0 ≡ put_row (Int id ∷ Blob key ∷ Blob value ∷ []) (mid 0)) × (is_taken (mid 0) (Int id ∷ Blob key ∷ Blob value ∷ []) ≡ false)
-  unfolding parts_schema parts_table
-  placed id key value mid out h =
-      let put = went h in
-      let applied = one_step parts_schema Enforced mid put.0 (edit_of mid parts_table [] Given 0 ((Int id ∷ Blob key ∷ Blob value ∷ []) ∷ [])) refl put.1 in
-      let row = λ (v : Value). v ∷ Blob key ∷ Blob value ∷ [] in (
-        ap (λ (it : Written). it.trees 0) (same_value put.2) ∙ applied.rows ∙ ap (λ v. put_row (row v) (mid 0)) (cast_int id),
-        ap (λ v. is_taken (mid 0) (row v)) (sym (cast_int id)) ∙ not-true _ (and_parts _ _ applied.fresh).0,
-      )
+  -- whether a row has the key
+  abbrev passes : Row → Bool
+  passes r = has_key key (drop 1 r)
 
-  -- what an attempt at one row leaves is what the insert of that row leaves
-  tried : (new : Row) (db : Trees) (top : ℤ) (source : Row) (out : Written × ℤ)
-      → TriesEach task Abort (put_clause ∷ []) (source ∷ []) top (nothing db) (Ok out) → with_rowid Chosen (db 0) (cast_row parts_table source) ≡ new
-      → (one : Written) × (out.0.trees 0 ≡ one.trees 0) × Upserts task Abort new db (put_clause ∷ []) (Ok one)
-  unfolding parts_table
-  tried new db top source out h is =
-      let one = went h in
-      let same = ap (λ (p : Written × ℤ). p.0.trees 0) (same_value one.2) in
-      let there : Upserts task Abort (with_rowid Chosen (db 0) (cast_row parts_table source)) db (put_clause ∷ []) (Ok one.0) = elim one.1 [
-        | inl refused ↦ absurd (let e = refused.1 in cc)
-        | inr judged ↦ judged_on judged.0 (with_rowid Chosen (db 0) (cast_row parts_table source)) db one.0 judged.2
-      ] in
-      (one.0, same, subst (λ r. Upserts task Abort r db (put_clause ∷ []) (Ok one.0)) is there)
+  -- no other row has the key
+  only : (r x : Row) → Has (db 0) r → passes r ≡ true → Has (db 0) x → passes x ≡ true → x ≡ r
+  only r x h passing k is =
+      one_key db stores.listed stores.stored.numbered stores.stored.ordered x r k h
+      (ap is_eq (ap₂ value_cmp (key_is key (db 0) rows stores.stored x k is) (key_is key (db 0) rows stores.stored r h passing) ∙ tied_itself value_cmp_total (Blob key)))
 
-  -- a row of a key that no row has is put in so
-  put_anew : (key value : List ℕ) (db : Trees) (out : Written) → ((r : Row) → Has (db 0) r → has_key key (drop 1 r) ≡ false)
-      → Puts task (Int (next_rowid (db 0)) ∷ Blob key ∷ Blob value ∷ []) db (Ok out) → IsPut key value (db 0) (out.trees 0)
-  put_anew key value db out none h =
-      let there = placed (next_rowid (db 0)) key value db out h in
-      let all = filter_all (λ r. not (has_key key (drop 1 r))) (db 0) (all_from _ (db 0) (λ r k. ap not (none r k))) in
-      record {
-        id = next_rowid (db 0);
-        is = subst (λ l. out.trees 0 ≡ put_row (Int (next_rowid (db 0)) ∷ Blob key ∷ Blob value ∷ []) l) (sym all) there.0;
-        fresh = subst (λ l. is_taken l (Int (next_rowid (db 0)) ∷ Blob key ∷ Blob value ∷ []) ≡ false) (sym all) there.1;
-      }
-
-  -- the edit that puts a row in place of the one of its rowid
-  abbrev changing : Trees → ℤ → List ℕ → List ℕ → Edit
-  changing db id key value = edit_of db parts_table (ids_of ((Int id ∷ Int id ∷ Blob key ∷ Blob value ∷ []) ∷ [])) Given 1 ((Int id ∷ Int id ∷ Blob key ∷ Blob value ∷ []) ∷ [])
-
-  -- where a row is put in place of the one of its rowid, the table has it so
-  changed : (db next : Trees) (id : ℤ) (key value : List ℕ) → Writes parts_schema Enforced db (changing db id key value) (Ok next)
-      → (next 0 ≡ put_row (Int id ∷ Blob key ∷ Blob value ∷ []) (without_all (db 0) (id ∷ []))) × (is_taken (without_all (db 0) (id ∷ [])) (Int id ∷ Blob key ∷ Blob value ∷ []) ≡ false)
-  unfolding parts_schema parts_table
-  changed db next id key value h =
-      let applied = one_step parts_schema Enforced db next (changing db id key value) refl h in
-      let row = λ (v : Value). v ∷ Blob key ∷ Blob value ∷ [] in (
-        applied.rows ∙ ap (λ v. put_row (row v) (without_all (db 0) (id ∷ []))) (cast_int id),
-        ap (λ v. is_taken (without_all (db 0) (id ∷ [])) (row v)) (sym (cast_int id)) ∙ not-true _ (and_parts _ _ applied.fresh).0,
-      )
-
-  -- where a row has the key, the update puts the value in so
-  put_over : (key value : List ℕ) (db : Trees) (rows : List KeyedRow) (fresh : Value) (r : Row) (out : Written) → StoresRows db rows → Has (db 0) r → has_key key (drop 1 r) ≡ true
-      → Updates task (record { lets = []; body = update_query }) (Blob key ∷ Blob value ∷ rowid r ∷ fresh ∷ Blob key ∷ Blob value ∷ []) db (Ok out) → IsPut key value (db 0) (out.trees 0)
-  put_over key value db rows fresh r out stores h passing done =
-      let given = Blob key ∷ Blob value ∷ rowid r ∷ fresh ∷ Blob key ∷ Blob value ∷ [] in
+  -- where a row has the key, it gets the value
+  changed_row : (r : Row) (found : List Row) (next : Trees) → Has (db 0) r → passes r ≡ true → IsPermutation (map (changed params) (filter passes (db 0))) found
+      → Writes parts_schema Enforced db (edit_of db parts_table (ids_of found) Given 1 found) (Ok next) → IsPut key value (db 0) (next 0)
+  changed_row r found next h passing same wrote =
       let table = stores.stored.ordered in
       let ints = stores.stored.numbered in
       let id = id_of r in
       let numbered = keyed (db 0) table ints r h in
-      let read = went done in
-      let wrote = went read.2 in
-      let own : is_numbered given r ≡ true = ap₂ (equal Binary) numbered numbered ∙ eq_ints id id ∙ ap is_eq (tied_itself value_cmp_total (Int id)) in
-      let only : (x : Row) → Has (db 0) x → is_numbered given x ≡ true → x ≡ r = λ x k is.
-      let same = keyed (db 0) table ints x k in
-      one_row (db 0) table ints x r k h (ap (λ v. is_eq (value_cmp v (Int id))) same ∙ sym (eq_ints (id_of x) id) ∙ sym (ap₂ (equal Binary) same numbered) ∙ is) in
-      let one : filter (is_numbered given) (db 0) ≡ r ∷ [] =
-      filter_one (λ a b. value_cmp (rowid a) (rowid b) ≡ Less) (is_numbered given) (db 0) r (λ y less. let tie = tied_itself value_cmp_total (rowid y) in cc) table h own only in
-      let found : read.0 ≡ (Int id ∷ Int id ∷ Blob key ∷ Blob value ∷ []) ∷ [] =
-      permuted_one (updated given r) read.0 (subst (λ l. IsPermutation (map (updated given) l) read.0) one (updated_rows db given read.0 (read.1.answer Null)))
+      let one : filter passes (db 0) ≡ r ∷ [] =
+      filter_one (λ a b. value_cmp (rowid a) (rowid b) ≡ Less) passes (db 0) r (λ y less. let tie = tied_itself value_cmp_total (rowid y) in cc) table h passing (λ x k is. only r x h passing k is) in
+      let is : found ≡ (Int id ∷ Int id ∷ Blob key ∷ Blob value ∷ []) ∷ [] =
+      permuted_one (changed params r) found (subst (λ l. IsPermutation (map (changed params) l) found) one same)
       ∙ ap₂ (λ (v w : Value). (v ∷ v ∷ w ∷ Blob value ∷ []) ∷ []) numbered (key_is key (db 0) rows stores.stored r h passing) in
-      let made = changed db wrote.0 id key value (subst (λ l. Writes parts_schema Enforced db (edit_of db parts_table (ids_of l) Given 1 l) (Ok wrote.0)) found wrote.1) in
-      let ids : AreIdsOf (db 0) (λ x. has_key key (drop 1 x)) (id ∷ []) = record {
-        complete = λ x k is. inl (ap id_of (one_key db stores.listed ints table x r k h
-            (ap is_eq (ap₂ value_cmp (key_is key (db 0) rows stores.stored x k is) (key_is key (db 0) rows stores.stored r h passing) ∙ tied_itself value_cmp_total (Blob key)))));
+      let made = placed db next id key value (subst (λ l. Writes parts_schema Enforced db (edit_of db parts_table (ids_of l) Given 1 l) (Ok next)) is wrote) in
+      let ids : AreIdsOf (db 0) passes (id ∷ []) = record {
+        complete = λ x k is. inl (ap id_of (only r x h passing k is));
         sound = λ i k. (r, h, passing, elim k [ inl e ↦ e | inr none ↦ absurd none ]);
       } in
-      let left = taken_out (db 0) table ints (λ x. has_key key (drop 1 x)) (id ∷ []) ids in
+      let left = taken_out (db 0) table ints passes (id ∷ []) ids in
       record {
         id = id;
-        is = ap (λ (it : Written). it.trees 0) (same_value wrote.2) ∙ made.0 ∙ ap (put_row (Int id ∷ Blob key ∷ Blob value ∷ [])) left;
+        is = made.0 ∙ ap (put_row (Int id ∷ Blob key ∷ Blob value ∷ [])) left;
         fresh = subst (λ l. is_taken l (Int id ∷ Blob key ∷ Blob value ∷ []) ≡ false) left made.1;
       }
 
--- where a row is in the way, it is updated
-resolved : (limit : Option ℕ) (key value : List ℕ) (id : ℤ) (db : Trees) (x : Row) (found : List Row) (out : Written) (otherwise : Part Written)
-    → Meets (task limit (Blob key ∷ Blob value ∷ [])) otherwise (Int id ∷ Blob key ∷ Blob value ∷ []) db put_clause (x ∷ found) (Ok out)
-    → Updates (task limit (Blob key ∷ Blob value ∷ [])) (record { lets = []; body = update_query }) (Blob key ∷ Blob value ∷ rowid x ∷ Int id ∷ Blob key ∷ Blob value ∷ []) db (Ok out)
-unfolding parts_table
-resolved limit key value id db x found out otherwise h = h
+  -- where no row is found, none has the key, and the table is as it was
+  same_rows : (next : Trees) → IsPermutation (map (changed params) (filter passes (db 0))) [] → Writes parts_schema Enforced db (edit_of db parts_table [] Given 1 []) (Ok next)
+      → next 0 ≡ filter (λ r. not (passes r)) (db 0)
+  unfolding parts_schema parts_table
+  same_rows next same wrote =
+      let applied = one_step parts_schema Enforced db next (edit_of db parts_table [] Given 1 []) refl wrote in
+      let none : (r : Row) → Has (db 0) r → passes r ≡ false = λ r h. false_from_ne_true _ (λ passing.
+      absurd (has_permuted (changed params r) _ _ same (mapped_has (changed params) (filter passes (db 0)) r (has_kept passes (db 0) r h passing)))) in
+      applied.rows ∙ sym (filter_all (λ r. not (passes r)) (db 0) (all_from _ (db 0) (λ r k. ap not (none r k))))
 
--- inserting the row, or updating the one of its key, leaves it beside the rows of other keys
-upserted : (limit : Option ℕ) (key value : List ℕ) (db : Trees) (rows : List KeyedRow) (out : Written) → StoresRows db rows
-    → Upserts (task limit (Blob key ∷ Blob value ∷ [])) Abort (Int (next_rowid (db 0)) ∷ Blob key ∷ Blob value ∷ []) db (put_clause ∷ []) (Ok out) → IsPut key value (db 0) (out.trees 0)
-unfolding parts_table
-upserted limit key value db rows out stores h = by h.0 h.1 h.2
-  where
-    params : Row
-    params = Blob key ∷ Blob value ∷ []
+-- some rows are changed, and then that is the row of the key; or none, since none has it
+abbrev pub IsChanged : List ℕ → List ℕ → List Row → List Row → ℕ → Type 0
+IsChanged key value stored left zero = left ≡ filter (λ r. not (has_key key (drop 1 r))) stored
+IsChanged key value stored left (suc more) = IsPut key value stored left
 
-    row : Row
-    row = Int (next_rowid (db 0)) ∷ Blob key ∷ Blob value ∷ []
+-- a count above 0 isn't 0
+is_some : (more : ℕ) → not (suc more == 0) ≡ true
+is_some more = ap not (ne_eqb (suc more) 0 (omega arith))
 
-    by : (found : List Row) → AreConflicts (Some (1 ∷ [])) parts_schema.indexes parts_table (db 0) row found
-        → Meets (task limit params) (Upserts (task limit params) Abort row db []) row db put_clause found (Ok out) → IsPut key value (db 0) (out.trees 0)
-    by [] are more =
-        put_anew limit params key value db out
-        (λ r k. false_from_ne_true _ (λ passing. are.complete r k (conflict_is key value (next_rowid (db 0)) r ∙ passing)))
-        (cleared limit params row db more.0 out more.2)
-    by (x ∷ found) are more =
-        let from = are.sound x (inl refl) in
-        let passing = sym (conflict_is key value (next_rowid (db 0)) from.0) ∙ from.2 in
-        put_over limit params key value db rows (Int (next_rowid (db 0))) from.0 out stores from.1 passing
-        (subst (λ v. Updates (task limit params) (record { lets = []; body = update_query }) (Blob key ∷ Blob value ∷ v ∷ Int (next_rowid (db 0)) ∷ Blob key ∷ Blob value ∷ []) db (Ok out)) (ap rowid from.3)
-        (resolved limit key value (next_rowid (db 0)) db x found out (Upserts (task limit params) Abort row db []) more))
+-- what is found tells which
+by_found : (key value : List ℕ) (db next : Trees) (rows : List KeyedRow) (found : List Row) → StoresRows db rows
+    → IsPermutation (map (changed (Blob key ∷ Blob value ∷ [])) (filter (λ r. has_key key (drop 1 r)) (db 0))) found
+    → Writes parts_schema Enforced db (edit_of db parts_table (ids_of found) Given 1 found) (Ok next) → IsChanged key value (db 0) (next 0) (length (edit_of db parts_table (ids_of found) Given 1 found).news)
+by_found key value db next rows [] stores same wrote = same_rows key value db rows stores next same wrote
+by_found key value db next rows (x ∷ found) stores same wrote =
+    let from = unmapped (changed (Blob key ∷ Blob value ∷ [])) (filter (λ r. has_key key (drop 1 r)) (db 0)) x (has_permuted x _ _ (IsPermutation-sym _ _ same) (inl refl)) in
+    let kept = has_filtered (λ r. has_key key (drop 1 r)) (db 0) from.0 from.1 in
+    changed_row key value db rows stores from.0 (x ∷ found) next kept.0 kept.1 same wrote
 
--- the statement that puts a row in leaves it, and the rows of other keys
-pub puts : (old new : State) (key value : List ℕ) (rows : List KeyedRow) (count : ℕ) → HasRows old rows → Executes put_statement (Blob key ∷ Blob value ∷ []) old new (Ok count)
-    → HasRows new (record { key = key; value = value } ∷ without key rows)
+-- a database whose table has the rows of other keys, and this one under a free rowid
+with_row : (new : State) (key value : List ℕ) (stored : List Row) (rows : List KeyedRow) → IsTrue new.is_open → IsDatabase new.now → new.now.schema ≡ parts_schema
+    → AreRows stored (map cells rows) → IsPut key value stored (new.now.trees 0) → HasRows new (record { key = key; value = value } ∷ without key rows)
+with_row new key value stored rows is_open sound declared are put =
+    now_has new (record { key = key; value = value } ∷ without key rows) _ is_open sound declared put.is
+    (are_more (Int put.id ∷ Blob key ∷ Blob value ∷ []) _ (record { key = key; value = value }) (without key rows) refl refl put.fresh (are_kept key stored rows are))
+
+-- the statement that changes the row of a key leaves it so, where it changed any, and the rows of other keys
+pub changes : (old new : State) (key value : List ℕ) (rows : List KeyedRow) (count : ℕ) → HasRows old rows → Executes change_statement (Blob key ∷ Blob value ∷ []) old new (Ok count)
+    → HasRows new (changed_rows (not (count == 0)) key value rows)
 unfolding parts_schema parts_table
-puts old new key value rows count h ran =
+changes old new key value rows count h ran =
     let params = Blob key ∷ Blob value ∷ [] in
     let db = old.now.trees in
-    let stored = db 0 in
-    let row : KeyedRow = record { key = key; value = value } in
-    let source = Null ∷ Blob key ∷ Blob value ∷ [] in
-    let command = InsertOr 0 Abort (Values put_terms 3) (put_clause ∷ []) in
-    let w = runs_as put_statement params old new parts_schema h.declared command put_is put_plain count ran in
-    let text = statement_of put_statement (understood parts_schema put_statement) in
+    let command = Update 0 (record { lets = []; body = change_query }) in
+    let w = runs_as change_statement params old new parts_schema h.declared command change_is change_plain count ran in
+    let text = statement_of change_statement (understood parts_schema change_statement) in
+    let done = went (subst (λ s. Does old.step_limit (mode_of old) params (record old.now { schema = s }) text None command (Ok (w.tally, new.now))) h.declared w.changed) in
+    let told = same_value (went (went done.2).2).2 in
+    let now = ap (λ (p : Tally × Database). p.1) told in
+    let read = went done.1 in
+    let wrote = went read.2 in
+    let written = same_value wrote.2 in
+    let trees : new.now.trees 0 ≡ wrote.0 0 = ap (λ (d : Database). d.trees 0) now ∙ ap (λ (it : Written). it.trees 0) written in
+    let counted : count ≡ length (edit_of db parts_table (ids_of read.0) Given 1 read.0).news = w.counted ∙ ap (λ (p : Tally × Database). unwrap_or p.0.rows 0) told ∙ ap (λ (it : Written). length it.rows) written in
+    let is : IsChanged key value (db 0) (new.now.trees 0) count = subst₂ (IsChanged key value (db 0)) (sym trees) (sym counted)
+    (by_found key value db wrote.0 rows read.0 h.stores (found_rows db key value read.0 (read.1.answer Null)) wrote.1) in
+    by count is w.shown.is_open w.sound (ap (λ (d : Database). d.schema) now)
+  where
+    by : (n : ℕ) → IsChanged key value (old.now.trees 0) (new.now.trees 0) n → IsTrue new.is_open → IsDatabase new.now → new.now.schema ≡ parts_schema
+        → HasRows new (changed_rows (not (n == 0)) key value rows)
+    by zero is is_open sound declared = now_has new (without key rows) _ is_open sound declared is (are_kept key (old.now.trees 0) rows h.stores.stored)
+    by (suc more) is is_open sound declared =
+        subst (λ b. HasRows new (changed_rows b key value rows)) (sym (is_some more)) (with_row new key value (old.now.trees 0) rows is_open sound declared h.stores.stored is)
+
+-- the count tells whether some row was changed
+pub some_or_none : (key value : List ℕ) (count : ℕ) (old new : State) → Changes key value count old new → ChangesOrNot (not (count == 0)) key value old new
+some_or_none key value zero old new ran = ran
+some_or_none key value (suc more) old new ran = subst (λ b. ChangesOrNot b key value old new) (sym (is_some more)) (suc more, λ none. absurd (omega (arith, none)), ran)
+
+-- ---- a row is inserted
+
+-- the edit that inserts a row
+abbrev inserting : Trees → List ℕ → List ℕ → Edit
+inserting db key value = edit_of db parts_table [] Chosen 0 ((Null ∷ Blob key ∷ Blob value ∷ []) ∷ [])
+
+-- where a row is inserted, the table has it besides, under the next rowid, which is free
+inserted : (db next : Trees) (key value : List ℕ) → Writes parts_schema Enforced db (inserting db key value) (Ok next)
+    → (next 0 ≡ put_row (Int (next_rowid (db 0)) ∷ Blob key ∷ Blob value ∷ []) (db 0)) × (is_taken (db 0) (Int (next_rowid (db 0)) ∷ Blob key ∷ Blob value ∷ []) ≡ false)
+unfolding parts_schema parts_table
+inserted db next key value h =
+    let applied = one_step parts_schema Enforced db next (inserting db key value) refl h in
+    let row = λ (v : Value). with_rowid Chosen (db 0) (v ∷ Blob key ∷ Blob value ∷ []) in (
+      applied.rows ∙ ap (λ v. put_row (row v) (db 0)) cast_null,
+      ap (λ v. is_taken (db 0) (row v)) (sym cast_null) ∙ not-true _ (and_parts _ _ applied.fresh).0,
+    )
+
+-- the statement that inserts a row leaves it, and all that were there
+pub inserts : (old new : State) (key value : List ℕ) (rows : List KeyedRow) (count : ℕ) → HasRows old rows → Executes insert_statement (Blob key ∷ Blob value ∷ []) old new (Ok count)
+    → HasRows new (record { key = key; value = value } ∷ rows)
+unfolding parts_schema parts_table
+inserts old new key value rows count h ran =
+    let params = Blob key ∷ Blob value ∷ [] in
+    let db = old.now.trees in
+    let command = Insert 0 (Values insert_terms 3) in
+    let w = runs_as insert_statement params old new parts_schema h.declared command insert_is insert_plain count ran in
+    let text = statement_of insert_statement (understood parts_schema insert_statement) in
     let done = went (subst (λ s. Does old.step_limit (mode_of old) params (record old.now { schema = s }) text None command (Ok (w.tally, new.now))) h.declared w.changed) in
     let now = ap (λ (p : Tally × Database). p.1) (same_value (went (went done.2).2).2) in
     let given = went done.1 in
     let counter = went given.2 in
-    let all = went counter.2 in
-    let counted = went all.2 in
-    let trees : done.0.trees ≡ all.0.0.trees = ap (λ (it : Written). it.trees) (same_value counted.2) ∙ same_value counted.1 in
-    let each = subst (λ l. TriesEach (task old.step_limit params) Abort (put_clause ∷ []) l (count_of counter.0) (nothing db) (Ok all.0)) given.1.1 all.1 in
-    let one = tried old.step_limit params (Int (next_rowid stored) ∷ Blob key ∷ Blob value ∷ []) db (count_of counter.0) source all.0 each
-    (ap (λ v. with_rowid Chosen stored (v ∷ Blob key ∷ Blob value ∷ [])) cast_null) in
-    let put = upserted old.step_limit key value db rows one.0 h.stores one.2 in
-    let is : new.now.trees 0 ≡ put_row (Int put.id ∷ Blob key ∷ Blob value ∷ []) (filter (λ r. not (has_key key (drop 1 r))) stored) =
-    ap (λ (d : Database). d.trees 0) now ∙ ap (λ (t : Trees). t 0) trees ∙ one.1 ∙ put.is in
-    now_has new (row ∷ without key rows) _ w.shown.is_open w.sound (ap (λ (d : Database). d.schema) now) is
-    (are_more (Int put.id ∷ Blob key ∷ Blob value ∷ []) _ row (without key rows) refl refl put.fresh (are_kept key stored rows h.stores.stored))
+    let wrote = went counter.2 in
+    let counted = went wrote.2 in
+    let trees : new.now.trees 0 ≡ wrote.0 0 = ap (λ (d : Database). d.trees 0) now ∙ ap (λ (it : Written). it.trees 0) (same_value counted.2) ∙ ap (λ (t : Trees). t 0) (same_value counted.1) in
+    let made = inserted db wrote.0 key value (subst (λ l. Writes parts_schema Enforced db (edit_of db parts_table [] Chosen 0 l) (Ok wrote.0)) given.1.1 wrote.1) in
+    now_has new (record { key = key; value = value } ∷ rows) _ w.shown.is_open w.sound (ap (λ (d : Database). d.schema) now) (trees ∙ made.0)
+    (are_more (Int (next_rowid (db 0)) ∷ Blob key ∷ Blob value ∷ []) (db 0) (record { key = key; value = value }) rows refl refl made.1 h.stores.stored)

@@ -27,7 +27,7 @@ use Rattle.sqlite_keyed.proofs.ListLemmas.{map-map, filter_same, along_permutati
 use Rattle.sqlite.specs.Listing.{understood, reads_listing, listing_schema, if_select, is_select}
 use Rattle.sqlite.specs.State.{State, CommitsShowing}
 use Rattle.sqlite_tied.specs.Compute.{everything}
-use Rattle.csi_sqlite.proofs.TextMeanings.{read_statement, remove_query, update_query}
+use Rattle.csi_sqlite.proofs.TextMeanings.{read_statement, remove_query, change_query}
 use Rattle.csi_sqlite.proofs.StoredRows.{has_key, has_key-row, AreIdsOf}
 
 -- ---- members
@@ -97,27 +97,22 @@ removed_ids db key found a =
           (r.0, kept.0, kept.1, x.2 ∙ ap id r.2);
     }
 
--- ---- the row of a rowid
-
 -- the row with its rowid twice, its key, and the new value
-abbrev pub updated : Row → Row → Row
-updated params r = rowid r ∷ rowid r ∷ column r 1 ∷ column params 5 ∷ []
+abbrev pub changed : Row → Row → Row
+changed params r = rowid r ∷ rowid r ∷ column r 1 ∷ column params 1 ∷ []
 
--- the row has the rowid that stands among the parameters
-abbrev pub is_numbered : Row → Row → Bool
-is_numbered params r = is_true (binary (Compare Eq Binary) (column r 0) (column params 2))
-
--- the query finds, in some order, the rows of the rowid with the new value
-pub updated_rows : (db : Trees) (params : Row) (found : List Row) → IsAnswer update_query (overlay db []) params found
-    → IsPermutation (map (updated params) (filter (is_numbered params) (db 0))) found
-updated_rows db params found a =
-    let left = filter (is_numbered params) (db 0) in
-    let staged = a.grouped ∙ one_match params (op2 (Compare Eq Binary) (col 1 0) (col 0 2)) (db 0) in
-    let shown : map (λ (o : Output). o.1) a.kept ≡ map (updated params) left =
-    ap (map (λ (o : Output). o.1)) (a.distinct ∙ ap (map (output update_query)) staged)
-    ∙ map-map (λ (o : Output). o.1) (output update_query) (map (λ r. params ∷ r ∷ []) left)
-    ∙ map-map (λ e. (output update_query e).1) (λ r. params ∷ r ∷ []) left in
-    subst (IsPermutation (map (updated params) left)) (sym a.shown)
+-- the query finds, in some order, the key's rows with the new value
+pub found_rows : (db : Trees) (key value : List ℕ) (found : List Row) → IsAnswer change_query (overlay db []) (Blob key ∷ Blob value ∷ []) found
+    → IsPermutation (map (changed (Blob key ∷ Blob value ∷ [])) (filter (λ r. has_key key (drop 1 r)) (db 0))) found
+found_rows db key value found a =
+    let params = Blob key ∷ Blob value ∷ [] in
+    let left = filter (λ r. has_key key (drop 1 r)) (db 0) in
+    let staged = a.grouped ∙ one_match params (op2 (Compare Eq Binary) (col 1 1) (col 0 0)) (db 0) ∙ ap (map (λ r. params ∷ r ∷ [])) (filter_same _ _ (has_key-row key) (db 0)) in
+    let shown : map (λ (o : Output). o.1) a.kept ≡ map (changed params) left =
+    ap (map (λ (o : Output). o.1)) (a.distinct ∙ ap (map (output change_query)) staged)
+    ∙ map-map (λ (o : Output). o.1) (output change_query) (map (λ r. params ∷ r ∷ []) left)
+    ∙ map-map (λ e. (output change_query e).1) (λ r. params ∷ r ∷ []) left in
+    subst (IsPermutation (map (changed params) left)) (sym a.shown)
     (subst (λ l. IsPermutation l (map (λ (o : Output). o.1) a.ordered)) shown (IsPermutation-map (λ (o : Output). o.1) _ _ a.same))
 
 -- ---- a text that only reads

@@ -3,7 +3,8 @@ use Rattle.std.proofs.Common.{◌≡◌, ◌∙◌, ◌⊎◌, inl, inr, ℕ, ze
 use Rattle.sqlite.specs.declared.error.Error.{Error}
 use Rattle.sqlite.specs.declared.error.Error.TheVariants.{SqliteFailure}
 use Rattle.sqlite.specs.declared.error.ErrorCode.TheVariants.{OutOfMemory}
-use Rattle.sqlite.specs.State.{State}
+use Rattle.sqlite_trees.specs.declared.store.Store.{Ghosts}
+use Rattle.sqlite.specs.Held.{Held, state}
 use Rattle.csi_stores.specs.declared.keep.KeepFault.{KeepFault}
 use Rattle.csi_stores.specs.declared.keep.KeepFault.TheVariants.{Device, NoMemory, BadRecord, Full}
 use Rattle.csi_sqlite.specs.Private.Tables.{IsCounted}
@@ -22,9 +23,10 @@ told_of_copies P error fault memory (inl device) refuses = subst (IsToldOfCopies
 told_of_copies P error fault memory (inr wanting) refuses = subst (IsToldOfCopies P) (sym wanting) (error, memory.0 wanting, refuses)
 
 -- a change that is made in a transaction leaves it open
-pub still_inside : (key : ℕ) (value : Option (List ℕ)) (old new : State) → MakesChange key value old new → IsTrue new.in_transaction
-still_inside key (Some value) old new made = made.1.1.mode
-still_inside key None old new made = made.1.1.mode
+pub still_inside : {S : Type 0} (g : Ghosts S) (key : ℕ) (value : Option (List ℕ)) (old new : Held S) → MakesChange g key value old new → IsTrue (state g new).in_transaction
+still_inside g key (Some value) old new (inl changed) = changed.2.1.mode
+still_inside g key (Some value) old new (inr inserted) = inserted.2.1.1.mode
+still_inside g key None old new made = made.1.1.mode
 
 -- from a place inside on, a list begins with what stands there
 pub from_place : {A : Type 0} (xs : List A) (i : ℕ) (x : A) → i < length xs → x ≡ get_or xs i x → drop i xs ≡ x ∷ drop (suc i) xs

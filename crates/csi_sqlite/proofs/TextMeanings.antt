@@ -1,4 +1,4 @@
--- What the four texts mean, and that none of them shows rows but the one that reads.
+-- What the five texts mean, and that none of them shows rows but the one that reads.
 use Rattle.std.proofs.Common.{◌≡◌, pos, negsuc, List, [], ◌∷◌, codes, false, None, Some, Ok, refl}
 use Rattle.sqlite.specs.declared.types.Value.TheVariants.{Null, Int}
 use Rattle.sqlite.specs.Collation.TheVariants.{Binary}
@@ -7,20 +7,18 @@ use Rattle.sqlite.specs.Query.{Query, inner, end}
 use Rattle.sqlite_sql.specs.declared.ops.BinaryOp.TheVariants.{Compare}
 use Rattle.sqlite_sql.specs.declared.ops.CompareOp.TheVariants.{Eq}
 use Rattle.sqlite.specs.Source.TheVariants.{Values}
-use Rattle.sqlite.specs.Command.TheVariants.{InsertOr, Delete, Select, CreateTable, Nothing}
-use Rattle.sqlite_schema.specs.declared.command.Conflict.TheVariants.{Abort}
-use Rattle.sqlite_schema.specs.declared.command.Upsert.{Upsert}
+use Rattle.sqlite.specs.Command.TheVariants.{Insert, Update, Delete, Select, CreateTable, Nothing}
 use Rattle.sqlite.specs.Compile.{table_defined_by}
 use Rattle.sqlite.specs.Change.{created}
 use Rattle.sqlite_tied.specs.Compute.{everything}
 use Rattle.sqlite.specs.Listing.{understood, reads_listing}
 use Rattle.sqlite.proofs.Callers.{IsPlain, command_of, statement_of}
 use Rattle.csi_sqlite.specs.Public.Declared.{parts_table, parts_schema, no_schema}
-pub use Rattle.csi_sqlite.specs.Public.Statements.{make_statement, read_statement, put_statement, remove_statement}
+pub use Rattle.csi_sqlite.specs.Public.Statements.{make_statement, read_statement, change_statement, insert_statement, remove_statement}
 
 -- the rowid is to be chosen, and then the two parameters
-abbrev pub put_terms : List Term
-put_terms = lit Null ∷ col 0 0 ∷ col 0 1 ∷ []
+abbrev pub insert_terms : List Term
+insert_terms = lit Null ∷ col 0 0 ∷ col 0 1 ∷ []
 
 -- the columns by rising key
 abbrev pub read_query : Query
@@ -50,23 +48,19 @@ remove_query = record {
   offset = lit (Int (pos 0));
 }
 
--- the row of a rowid, with the new row's value in place of its own
-abbrev pub update_query : Query
-update_query = record {
+-- the rows of a key, each with its rowid twice, and the new value in place of its own
+abbrev pub change_query : Query
+change_query = record {
   from = inner 0 end;
-  filter = op2 (Compare Eq Binary) (col 1 0) (col 0 2) ∷ [];
+  filter = op2 (Compare Eq Binary) (col 1 1) (col 0 0) ∷ [];
   group = None;
-  project = col 1 0 ∷ col 1 0 ∷ col 1 1 ∷ col 0 5 ∷ [];
+  project = col 1 0 ∷ col 1 0 ∷ col 1 1 ∷ col 0 1 ∷ [];
   distinct = false;
   collations = [];
   order = [];
   limit = lit (Int (negsuc 0));
   offset = lit (Int (pos 0));
 }
-
--- a row of the same key is updated
-abbrev pub put_clause : Upsert
-put_clause = record { target = Some (1 ∷ []); update = Some (record { lets = []; body = update_query }) }
 
 -- in an empty schema the text makes a table, which is the declared one
 pub make_is : (command_of (understood no_schema make_statement) ≡ CreateTable) × (statement_of make_statement (understood no_schema make_statement) ≡ make_statement) × (table_defined_by make_statement ≡ Ok parts_table)
@@ -103,15 +97,25 @@ pub read_plain : IsPlain (understood parts_schema read_statement)
 unfolding understood everything parts_table parts_schema
 read_plain = (refl, refl)
 
--- the text that puts a row in is this insert, which updates a row of the same key
-pub put_is : command_of (understood parts_schema put_statement) ≡ InsertOr 0 Abort (Values put_terms 3) (put_clause ∷ [])
+-- the text that changes a row updates what the query finds
+pub change_is : command_of (understood parts_schema change_statement) ≡ Update 0 (record { lets = []; body = change_query })
 unfolding understood everything parts_table parts_schema
-put_is = refl
+change_is = refl
+
+-- so is the text that changes a row
+pub change_plain : IsPlain (understood parts_schema change_statement)
+unfolding understood everything parts_table parts_schema
+change_plain = (refl, refl)
+
+-- the text that puts a row in is this insert
+pub insert_is : command_of (understood parts_schema insert_statement) ≡ Insert 0 (Values insert_terms 3)
+unfolding understood everything parts_table parts_schema
+insert_is = refl
 
 -- so is the text that puts a row in
-pub put_plain : IsPlain (understood parts_schema put_statement)
+pub insert_plain : IsPlain (understood parts_schema insert_statement)
 unfolding understood everything parts_table parts_schema
-put_plain = (refl, refl)
+insert_plain = (refl, refl)
 
 -- the text that takes a row out deletes what the query finds
 pub remove_is : command_of (understood parts_schema remove_statement) ≡ Delete 0 (record { lets = []; body = remove_query })

@@ -1,3 +1,4 @@
+pub mod Changing
 pub mod Listed
 pub mod Loading
 pub mod Looking

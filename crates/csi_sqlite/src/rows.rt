@@ -7,7 +7,8 @@ ghost use Rattle.sqlite.specs.Order.{Row as Cells};
 ghost use Rattle.csi_sqlite.specs.Public.Declared.{parts_schema};
 ghost use Rattle.csi_sqlite.specs.Public.Rows.{KeyedRow, cells, without, AreRising, AreByKey, StoresRows, HasColumns, HasRows, IsAtRest, IsBlank, IsInputError};
 ghost use Rattle.csi_sqlite.specs.Public.Listed.{ListsOther};
-ghost use Rattle.csi_sqlite.specs.Public.Statements.{RefusesToMake, GivesRows, RefusesToRead, PutsRow, RefusesToPut, RemovesRow, RefusesToRemove};
+ghost use Rattle.csi_sqlite.specs.Private.Changing.{changed_rows, ChangesOrNot};
+ghost use Rattle.csi_sqlite.specs.Public.Statements.{RefusesToMake, GivesRows, RefusesToRead, Inserts, PutsRow, RefusesToChange, RefusesToInsert, RefusesToPut, RemovesRow, RefusesToRemove};
 
 use crate::listed::{lists_nothing, lists_parts};
 use sqlite::{Alter, Connection, Error, ErrorCode, Row, Transaction, params};
@@ -82,7 +83,51 @@ pub fn all_rows<S: Alter>(connection: &mut Connection<S>) -> Result<Vec<Row>, Er
     connection.query_all("SELECT key, value FROM parts ORDER BY key", &[])
 }
 
-/// Puts a row in, in place of the one of its key if there is one. An error is SQLite's own at the statement.
+// Gives the row of a key this value, and answers whether there is one. An error is SQLite's own at the statement.
+fn change_row<S: Alter>(
+    transaction: &mut Transaction<'_, S>,
+    key: &[u8],
+    value: &[u8],
+) -> Result<bool, Error>
+    ensures same_reference { transaction.new.conn.ghost_name ≡ transaction.old.conn.ghost_name }
+    ensures changed { HasCleanDisk (state S.Store transaction.new.conn.now) → (rows : List KeyedRow) → HasRows (state S.Store transaction.old.conn.now) rows
+        → IfOk result (λ there. HasRows (state S.Store transaction.new.conn.now) (changed_rows there key.now value.now rows)) }
+    ensures ran { HasCleanDisk (state S.Store transaction.new.conn.now) → IsTrue (state S.Store transaction.old.conn.now).in_transaction
+        → IfOk result (λ there. ChangesOrNot there key.now value.now (state S.Store transaction.old.conn.now) (state S.Store transaction.new.conn.now)) }
+    ensures refused { HasCleanDisk (state S.Store transaction.new.conn.now) → IsTrue (state S.Store transaction.old.conn.now).in_transaction →
+        IfErr result (RefusesToChange key.now value.now (state S.Store transaction.old.conn.now) (state S.Store transaction.new.conn.now)) }
+    ensures survives { Survives (state S.Store transaction.old.conn.now) (state S.Store transaction.new.conn.now) (λ _. ⊥) }
+{
+    let count = transaction.execute(
+        "UPDATE parts SET value = ?2 WHERE key = ?1",
+        params![key, value],
+    )?;
+    Ok(count != 0)
+}
+
+// Puts a row in, of a key that no row has. An error is SQLite's own at the statement.
+fn insert_row<S: Alter>(
+    transaction: &mut Transaction<'_, S>,
+    key: &[u8],
+    value: &[u8],
+) -> Result<(), Error>
+    ensures same_reference { transaction.new.conn.ghost_name ≡ transaction.old.conn.ghost_name }
+    ensures inserted { HasCleanDisk (state S.Store transaction.new.conn.now) → (rows : List KeyedRow) → HasRows (state S.Store transaction.old.conn.now) rows
+        → OnOk result (HasRows (state S.Store transaction.new.conn.now) ((record { key = key.now; value = value.now }) ∷ rows)) }
+    ensures ran { HasCleanDisk (state S.Store transaction.new.conn.now) → IsTrue (state S.Store transaction.old.conn.now).in_transaction →
+        OnOk result (Inserts key.now value.now (state S.Store transaction.old.conn.now) (state S.Store transaction.new.conn.now)) }
+    ensures refused { HasCleanDisk (state S.Store transaction.new.conn.now) → IsTrue (state S.Store transaction.old.conn.now).in_transaction →
+        IfErr result (RefusesToInsert key.now value.now (state S.Store transaction.old.conn.now) (state S.Store transaction.new.conn.now)) }
+    ensures survives { Survives (state S.Store transaction.old.conn.now) (state S.Store transaction.new.conn.now) (λ _. ⊥) }
+{
+    transaction.execute(
+        "INSERT INTO parts (key, value) VALUES (?1, ?2)",
+        params![key, value],
+    )?;
+    Ok(())
+}
+
+/// Puts a row in, in place of the one of its key if there is one. An error is SQLite's own at one of its two statements.
 pub fn put_row<S: Alter>(
     transaction: &mut Transaction<'_, S>,
     key: &[u8],
@@ -92,16 +137,15 @@ pub fn put_row<S: Alter>(
     ensures put { HasCleanDisk (state S.Store transaction.new.conn.now) → (rows : List KeyedRow) → HasRows (state S.Store transaction.old.conn.now) rows
         → OnOk result (HasRows (state S.Store transaction.new.conn.now) ((record { key = key.now; value = value.now }) ∷ without key.now rows)) }
     ensures ran { HasCleanDisk (state S.Store transaction.new.conn.now) → IsTrue (state S.Store transaction.old.conn.now).in_transaction →
-        OnOk result (PutsRow key.now value.now (state S.Store transaction.old.conn.now) (state S.Store transaction.new.conn.now)) }
+        OnOk result (PutsRow S.Store key.now value.now transaction.old.conn.now transaction.new.conn.now) }
     ensures refused { HasCleanDisk (state S.Store transaction.new.conn.now) → IsTrue (state S.Store transaction.old.conn.now).in_transaction →
-        IfErr result (RefusesToPut key.now value.now (state S.Store transaction.old.conn.now) (state S.Store transaction.new.conn.now)) }
+        IfErr result (RefusesToPut S.Store key.now value.now transaction.old.conn.now transaction.new.conn.now) }
     ensures survives { Survives (state S.Store transaction.old.conn.now) (state S.Store transaction.new.conn.now) (λ _. ⊥) }
 {
-    transaction.execute(
-        "INSERT INTO parts (key, value) VALUES (?1, ?2) ON CONFLICT (key) DO UPDATE SET value = excluded.value",
-        params![key, value],
-    )?;
-    Ok(())
+    if change_row(transaction, key, value)? {
+        return Ok(());
+    }
+    insert_row(transaction, key, value)
 }
 
 /// Takes out the row of a key, if there is one. An error is SQLite's own at the statement.

@@ -48,20 +48,20 @@ IsNotLoaded before after Full = ⊥
 
 -- ---- changing
 
--- SQLite makes a change, in a transaction: the part's row is put in, or the row of its key taken out
-abbrev pub MakesChange : ℕ → Option (List ℕ) → State → State → Type 0
-MakesChange key (Some value) = PutsRow (big_bytes 8 key) value
-MakesChange key None = RemovesRow (big_bytes 8 key)
-
--- SQLite refuses to make it, with this error
-abbrev pub RefusesChange : ℕ → Option (List ℕ) → State → State → Error → Type 0
-RefusesChange key (Some value) = RefusesToPut (big_bytes 8 key) value
-RefusesChange key None = RefusesToRemove (big_bytes 8 key)
-
 module _ {S : Type 0} (g : Ghosts S) where
+  -- SQLite makes a change, in a transaction: the part's row is put in, or the row of its key taken out
+  abbrev pub MakesChange : ℕ → Option (List ℕ) → Held S → Held S → Type 0
+  MakesChange key (Some value) before after = PutsRow g (big_bytes 8 key) value before after
+  MakesChange key None before after = RemovesRow (big_bytes 8 key) (state g before) (state g after)
+
+  -- SQLite refuses to make it, with this error
+  abbrev pub RefusesChange : ℕ → Option (List ℕ) → Held S → Held S → Error → Type 0
+  RefusesChange key (Some value) before after error = RefusesToPut g (big_bytes 8 key) value before after error
+  RefusesChange key None before after error = RefusesToRemove (big_bytes 8 key) (state g before) (state g after) error
+
   -- one change is made, and nothing is committed by it
   pub record IsChanged (change : StoredChange) (before after : Held S) : Type 0 where
-    pub made : MakesChange change.key change.value (state g before) (state g after)
+    pub made : MakesChange change.key change.value before after
     pub survives : Survives (state g before) (state g after) (λ _. ⊥)
 
   -- a transaction that was refused something is undone
@@ -74,7 +74,7 @@ module _ {S : Type 0} (g : Ghosts S) where
   abbrev pub RefusesOneOf : List StoredChange → Held S → Held S → Error → Type 0
   RefusesOneOf [] now after error = FailsToCommit (state g now) (state g after) error
   RefusesOneOf (change ∷ changes) now after error =
-      ((refused : Held S) × RefusesChange change.key change.value (state g now) (state g refused) error × IsUndone refused after)
+      ((refused : Held S) × RefusesChange change.key change.value now refused error × IsUndone refused after)
       ⊎ ((next : Held S) × IsChanged change now next × RefusesOneOf changes next after error)
 
   -- SQLite refuses these changes, which are asked for in a transaction of their own

@@ -1,10 +1,12 @@
--- The four statements on the table: what makes it, reads it, puts a row in and takes one out; and how SQLite carries them out, or
--- refuses them.
-use Rattle.std.specs.Prelude.{ℕ, List, [], ◌∷◌, codes, Ok, Err}
+-- The five statements on the table: what makes it, reads it, changes a row, puts one in and takes one out; and how SQLite carries them
+-- out, or refuses them.
+use Rattle.std.specs.Prelude.{◌≢◌, ◌⊎◌, ℕ, List, [], ◌∷◌, codes, Ok, Err}
 use Rattle.sqlite.specs.declared.types.Value.TheVariants.{Blob}
 use Rattle.sqlite.specs.declared.error.Error.{Error}
 use Rattle.sqlite.specs.Order.{Row}
-use Rattle.sqlite.specs.State.{State, Executes, ExecutesInside, FailsToQuery, Shown}
+use Rattle.sqlite_trees.specs.declared.store.Store.{Ghosts}
+use Rattle.sqlite.specs.Held.{Held, state}
+use Rattle.sqlite.specs.State.{State, Executes, ExecutesInside, FailsToQuery, Shown, Survives}
 
 -- makes the table, if it isn't there
 abbrev pub make_statement : List ℕ
@@ -14,9 +16,13 @@ make_statement = codes "CREATE TABLE IF NOT EXISTS parts (key BLOB NOT NULL PRIM
 abbrev pub read_statement : List ℕ
 read_statement = codes "SELECT key, value FROM parts ORDER BY key"
 
--- puts a row in, over one of the same key
-abbrev pub put_statement : List ℕ
-put_statement = codes "INSERT INTO parts (key, value) VALUES (?1, ?2) ON CONFLICT (key) DO UPDATE SET value = excluded.value"
+-- gives the row of a key this value, if there is one
+abbrev pub change_statement : List ℕ
+change_statement = codes "UPDATE parts SET value = ?2 WHERE key = ?1"
+
+-- puts a row in, of a key that no row has
+abbrev pub insert_statement : List ℕ
+insert_statement = codes "INSERT INTO parts (key, value) VALUES (?1, ?2)"
 
 -- takes the row of a key out
 abbrev pub remove_statement : List ℕ
@@ -34,13 +40,39 @@ GivesRows rows before after = Shown read_statement [] before after rows
 abbrev pub RefusesToRead : State → State → Error → Type 0
 RefusesToRead before after error = FailsToQuery read_statement [] before after error
 
--- SQLite puts this row in, in a transaction
-abbrev pub PutsRow : List ℕ → List ℕ → State → State → Type 0
-PutsRow key value before after = (count : ℕ) × ExecutesInside 0 put_statement (Blob key ∷ Blob value ∷ []) before after (Ok count)
+-- SQLite gives so many rows of this key this value, in a transaction
+abbrev pub Changes : List ℕ → List ℕ → ℕ → State → State → Type 0
+Changes key value count before after = ExecutesInside 0 change_statement (Blob key ∷ Blob value ∷ []) before after (Ok count)
 
--- SQLite refuses to put this row in, with this error
-abbrev pub RefusesToPut : List ℕ → List ℕ → State → State → Error → Type 0
-RefusesToPut key value before after error = ExecutesInside 0 put_statement (Blob key ∷ Blob value ∷ []) before after (Err error)
+-- SQLite refuses to, with this error
+abbrev pub RefusesToChange : List ℕ → List ℕ → State → State → Error → Type 0
+RefusesToChange key value before after error = ExecutesInside 0 change_statement (Blob key ∷ Blob value ∷ []) before after (Err error)
+
+-- SQLite inserts this row, in a transaction
+abbrev pub Inserts : List ℕ → List ℕ → State → State → Type 0
+Inserts key value before after = (count : ℕ) × ExecutesInside 0 insert_statement (Blob key ∷ Blob value ∷ []) before after (Ok count)
+
+-- SQLite refuses to, with this error
+abbrev pub RefusesToInsert : List ℕ → List ℕ → State → State → Error → Type 0
+RefusesToInsert key value before after error = ExecutesInside 0 insert_statement (Blob key ∷ Blob value ∷ []) before after (Err error)
+
+module _ {S : Type 0} (g : Ghosts S) where
+  -- SQLite finds no row of this key to be changed, and nothing is committed by that
+  pub record FindsNone (key value : List ℕ) (before after : Held S) : Type 0 where
+    pub changes : Changes key value 0 (state g before) (state g after)
+    pub survives : Survives (state g before) (state g after) (λ _. ⊥)
+
+  -- SQLite puts this row in, in a transaction: it changes the one of its key; or it finds none, and then inserts this one
+  abbrev pub PutsRow : List ℕ → List ℕ → Held S → Held S → Type 0
+  PutsRow key value before after =
+      ((count : ℕ) × (count ≢ 0) × Changes key value count (state g before) (state g after))
+      ⊎ ((between : Held S) × FindsNone key value before between × Inserts key value (state g between) (state g after))
+
+  -- SQLite refuses to put this row in, with this error: at the one statement, or at the other
+  abbrev pub RefusesToPut : List ℕ → List ℕ → Held S → Held S → Error → Type 0
+  RefusesToPut key value before after error =
+      RefusesToChange key value (state g before) (state g after) error
+      ⊎ ((between : Held S) × FindsNone key value before between × RefusesToInsert key value (state g between) (state g after) error)
 
 -- SQLite takes the row of this key out, if there is one, in a transaction
 abbrev pub RemovesRow : List ℕ → State → State → Type 0

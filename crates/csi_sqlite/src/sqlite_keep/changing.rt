@@ -20,11 +20,11 @@ fn change<S: Alter>(transaction: &mut Transaction<'_, S>, part: &Part) -> Result
         HasParts (state S.Store transaction.old.conn.now) content
         → OnOk result (HasParts (state S.Store transaction.new.conn.now) (changed_to (part_change part.now).key (part_change part.now).value content)) }
     ensures made { HasCleanDisk (state S.Store transaction.new.conn.now) → IsTrue (state S.Store transaction.old.conn.now).in_transaction
-        → OnOk result (MakesChange (part_change part.now).key (part_change part.now).value
-        (state S.Store transaction.old.conn.now) (state S.Store transaction.new.conn.now)) }
+        → OnOk result (MakesChange S.Store (part_change part.now).key (part_change part.now).value
+        transaction.old.conn.now transaction.new.conn.now) }
     ensures refused { HasCleanDisk (state S.Store transaction.new.conn.now) → IsTrue (state S.Store transaction.old.conn.now).in_transaction
-        → IfErr result (RefusesChange (part_change part.now).key (part_change part.now).value
-        (state S.Store transaction.old.conn.now) (state S.Store transaction.new.conn.now)) }
+        → IfErr result (RefusesChange S.Store (part_change part.now).key (part_change part.now).value
+        transaction.old.conn.now transaction.new.conn.now) }
     ensures survives { Survives (state S.Store transaction.old.conn.now) (state S.Store transaction.new.conn.now) (λ _. ⊥) }
 {
     let key = part.key.to_be_bytes();

@@ -47,7 +47,7 @@ loop-part-preserved g c =
           let so_far = invariant.3 (early clean) inside in
           let change = part_change part in
           let made = c.in_ok-change.ensures.made clean so_far.0 in (
-            still_inside change.key change.value (state g.S.Store now) (state g.S.Store next) made,
+            still_inside g.S.Store change.key change.value now next made,
             λ after error refuses. so_far.1 after error
                 (subst (λ (l : List Part). RefusesOneOf g.S.Store (map part_change l) now after error) (sym whole) (inr (next, record { made = made; survives = c.change.ensures.survives }, refuses))),
           ),
