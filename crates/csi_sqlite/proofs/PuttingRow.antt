@@ -1,7 +1,7 @@
 -- What the two statements that put a row in do: the row of its key gets the value, or else the row goes under a new rowid.
-use Rattle.std.proofs.Common.{IsTrue, ◌≡◌, ◌==◌, inl, inr, ℕ, zero, suc, ℤ, List, [], ◌∷◌, map, drop, filter, not, length, bytes_eq, Less, IsPermutation, ap₂, Bool, true, false, cond, None, Ok, refl, sym, ap, subst, subst₂, ◌∙◌, unwrap_or, arith}
+use Rattle.std.proofs.Common.{IsTrue, ◌≡◌, ◌==◌, inl, inr, ℕ, zero, suc, ℤ, List, [], ◌∷◌, map, drop, filter, not, length, bytes_eq, Less, IsPermutation, ap₂, Bool, true, false, cond, None, Ok, refl, sym, ap, subst, subst₂, ◌∙◌, unwrap_or, arith, Err, true≢false}
 use Rattle.std.specs.Ordering.{is_eq}
-use Rattle.std.proofs.lemmas.Bool.{and_parts, not-true, false_from_ne_true, ne_eqb}
+use Rattle.std.proofs.lemmas.Bool.{and_parts, not-true, false_from_ne_true, ne_eqb, cases_Bool}
 use Rattle.std.proofs.lemmas.Cmp.{tied_itself}
 use Rattle.std.proofs.lemmas.Slice.Eq.{bytes_eq-Decides}
 use Rattle.std.proofs.lemmas.List.Sorted.{IsPermutation-sym}
@@ -18,7 +18,7 @@ use Rattle.sqlite_rules.specs.Cast.{cast}
 use Rattle.sqlite_rules.specs.Lists.{Has}
 use Rattle.sqlite_rules.specs.Edit.{Edit, edit_of, with_rowid, next_rowid, without_all, is_taken}
 use Rattle.sqlite_rules.specs.Calls.{ids_of}
-use Rattle.sqlite_rules.proofs.ListLemmas.{all_from, has_filtered, has_kept}
+use Rattle.sqlite_rules.proofs.ListLemmas.{all_from, has_filtered, has_kept, some_from}
 use Rattle.sqlite_rules.proofs.ProbeLemmas.{mapped_has}
 use Rattle.sqlite_rules.specs.Action.{Writes}
 use Rattle.sqlite_keyed.proofs.ListLemmas.{filter_all}
@@ -28,14 +28,20 @@ use Rattle.sqlite.specs.Does.{Tally, Does}
 use Rattle.sqlite.specs.Rows.{Written}
 use Rattle.sqlite.specs.Listing.{understood}
 use Rattle.sqlite.specs.Effect.{Database, IsDatabase}
-use Rattle.sqlite.specs.State.{State, mode_of, Executes}
+use Rattle.sqlite_schema.specs.declared.schema.Constraint.{Constraint}
+use Rattle.sqlite_trees.specs.declared.error.StoreError.{StoreError}
+use Rattle.sqlite_trees.specs.declared.error.StoreError.TheVariants.{OutOfMemory, Io, Corrupt, Full, Broken, Unstorable}
+use Rattle.sqlite.specs.declared.error.Error.{Error}
+use Rattle.sqlite.specs.declared.error.Error.TheVariants.{SqliteFailure}
+use Rattle.sqlite.specs.declared.error.ErrorCode.TheVariants.{ConstraintViolation}
+use Rattle.sqlite.specs.State.{State, mode_of, shows_rows, store_error, Executes, ExecutesIn, ExecutesInside, IsNotRun, IsUnchanged}
 use Rattle.sqlite.proofs.Callers.{statement_of, runs_as, one_step}
 use Rattle.csi_sqlite.specs.Public.Declared.{parts_table, parts_schema}
 use Rattle.csi_sqlite.specs.Public.Rows.{KeyedRow, cells, AreRows, StoresRows, HasRows, without}
 use Rattle.csi_sqlite.specs.Private.Changing.{changed_rows, ChangesOrNot}
 use Rattle.csi_sqlite.specs.Public.Statements.{Changes}
 use Rattle.csi_sqlite.proofs.TextMeanings.{change_statement, insert_statement, insert_terms, change_query, change_is, change_plain, insert_is, insert_plain}
-use Rattle.csi_sqlite.proofs.StoredRows.{has_key, has_key-cells, id_of, AreIdsOf, keyed, taken_out, are_kept, are_more}
+use Rattle.csi_sqlite.proofs.StoredRows.{has_key, has_key-cells, id_of, AreIdsOf, keyed, taken_out, put_moves, are_kept, are_more}
 use Rattle.csi_sqlite.proofs.ListFacts.{permuted_one, filter_one}
 use Rattle.csi_sqlite.proofs.Keys.{first_column, one_key}
 use Rattle.csi_sqlite.proofs.QueryAnswers.{unmapped, has_permuted, changed, found_rows}
@@ -211,11 +217,17 @@ inserted db next key value h =
       ap (λ v. is_taken (db 0) (row v)) (sym cast_null) ∙ not-true _ (and_parts _ _ applied.fresh).0,
     )
 
--- the statement that inserts a row leaves it, and all that were there
-pub inserts : (old new : State) (key value : List ℕ) (rows : List KeyedRow) (count : ℕ) → HasRows old rows → Executes insert_statement (Blob key ∷ Blob value ∷ []) old new (Ok count)
-    → HasRows new (record { key = key; value = value } ∷ rows)
+-- what the statement that inserts a row leaves: it, under a free rowid, and all that were there
+pub record IsInserted (old new : State) (key value : List ℕ) (rows : List KeyedRow) : Type 0 where
+  pub id : ℤ
+  pub is : new.now.trees 0 ≡ put_row (Int id ∷ Blob key ∷ Blob value ∷ []) (old.now.trees 0)
+  pub free : is_taken (old.now.trees 0) (Int id ∷ Blob key ∷ Blob value ∷ []) ≡ false
+  pub has : HasRows new (record { key = key; value = value } ∷ rows)
+
+inserts_row : (old new : State) (key value : List ℕ) (rows : List KeyedRow) (count : ℕ) → HasRows old rows → Executes insert_statement (Blob key ∷ Blob value ∷ []) old new (Ok count)
+    → IsInserted old new key value rows
 unfolding parts_schema parts_table
-inserts old new key value rows count h ran =
+inserts_row old new key value rows count h ran =
     let params = Blob key ∷ Blob value ∷ [] in
     let db = old.now.trees in
     let command = Insert 0 (Values insert_terms 3) in
@@ -229,5 +241,61 @@ inserts old new key value rows count h ran =
     let counted = went wrote.2 in
     let trees : new.now.trees 0 ≡ wrote.0 0 = ap (λ (d : Database). d.trees 0) now ∙ ap (λ (it : Written). it.trees 0) (same_value counted.2) ∙ ap (λ (t : Trees). t 0) (same_value counted.1) in
     let made = inserted db wrote.0 key value (subst (λ l. Writes parts_schema Enforced db (edit_of db parts_table [] Chosen 0 l) (Ok wrote.0)) given.1.1 wrote.1) in
-    now_has new (record { key = key; value = value } ∷ rows) _ w.shown.is_open w.sound (ap (λ (d : Database). d.schema) now) (trees ∙ made.0)
-    (are_more (Int (next_rowid (db 0)) ∷ Blob key ∷ Blob value ∷ []) (db 0) (record { key = key; value = value }) rows refl refl made.1 h.stores.stored)
+    record {
+      id = next_rowid (db 0);
+      is = trees ∙ made.0;
+      free = made.1;
+      has = now_has new (record { key = key; value = value } ∷ rows) _ w.shown.is_open w.sound (ap (λ (d : Database). d.schema) now) (trees ∙ made.0)
+      (are_more (Int (next_rowid (db 0)) ∷ Blob key ∷ Blob value ∷ []) (db 0) (record { key = key; value = value }) rows refl refl made.1 h.stores.stored);
+    }
+
+-- the statement that inserts a row leaves it, and all that were there
+pub inserts : (old new : State) (key value : List ℕ) (rows : List KeyedRow) (count : ℕ) → HasRows old rows → Executes insert_statement (Blob key ∷ Blob value ∷ []) old new (Ok count)
+    → HasRows new (record { key = key; value = value } ∷ rows)
+inserts old new key value rows count h ran = (inserts_row old new key value rows count h ran).has
+
+-- a row that had the key would be the one that is inserted, whose rowid was free
+none_before : (old new : State) (key value : List ℕ) (rows : List KeyedRow) → HasRows old rows → IsInserted old new key value rows → (r : Row) → Has (old.now.trees 0) r → has_key key (drop 1 r) ≡ false
+none_before old new key value rows h it r there = false_from_ne_true _ (λ passing.
+    let stored = old.now.trees 0 in
+    let row = Int it.id ∷ Blob key ∷ Blob value ∷ [] in
+    let moves = IsPermutation-sym _ _ (put_moves row stored it.free) in
+    let among = λ (x : Row) (k : Has (row ∷ stored) x). subst (λ l. Has l x) (sym it.is) (has_permuted x _ _ moves k) in
+    let tie : is_eq (value_cmp (column r 1) (Blob key)) ≡ true = ap is_eq (ap (λ v. value_cmp v (Blob key)) (key_is key stored rows h.stores.stored r there passing) ∙ tied_itself value_cmp_total (Blob key)) in
+    let same : r ≡ row = one_key new.now.trees it.has.stores.listed it.has.stores.stored.numbered it.has.stores.stored.ordered r row (among r (inr there)) (among row (inl refl)) tie in
+    let taken = some_from (λ x. is_eq (value_cmp (rowid x) (Int it.id))) stored r there (ap (λ (x : Row). is_eq (value_cmp (rowid x) (Int it.id))) same ∙ ap is_eq (tied_itself value_cmp_total (Int it.id))) in
+    absurd (true≢false (sym taken ∙ it.free)))
+
+-- so no row had the key before
+pub alone : (old new : State) (key value : List ℕ) (rows : List KeyedRow) (count : ℕ) → HasRows old rows → Executes insert_statement (Blob key ∷ Blob value ∷ []) old new (Ok count) → without key rows ≡ rows
+alone old new key value rows count h ran =
+    let it = inserts_row old new key value rows count h ran in
+    filter_all (λ (row : KeyedRow). not (bytes_eq row.key key)) rows (all_from _ rows (λ row k.
+    let from = unmapped (drop 1) (old.now.trees 0) (cells row) (has_permuted (cells row) _ _ (IsPermutation-sym _ _ h.stores.stored.same) (mapped_has cells rows row k)) in
+    ap not (sym (has_key-cells key row) ∙ ap (has_key key) from.2 ∙ none_before old new key value rows h it from.0 from.1)))
+
+-- ---- a rule of the table refuses
+
+-- no store's error is a rule of a table
+never : (rule : Constraint) (cause : StoreError) → ¬ (◌≡◌ {A = Error} (SqliteFailure (ConstraintViolation rule)) (store_error cause))
+never rule OutOfMemory is = absurd (let e = is in cc)
+never rule Io is = absurd (let e = is in cc)
+never rule Corrupt is = absurd (let e = is in cc)
+never rule Full is = absurd (let e = is in cc)
+never rule Broken is = absurd (let e = is in cc)
+never rule Unstorable is = absurd (let e = is in cc)
+
+-- what a rule of the table refuses changes nothing
+pub ruled_out : (sql : List ℕ) (given : Row) (old new : State) (rule : Constraint) → ExecutesInside 0 sql given old new (Err (SqliteFailure (ConstraintViolation rule))) → IsUnchanged old new
+unfolding ExecutesIn IsNotRun
+ruled_out sql given old new rule (inr ended) = ended.2
+ruled_out sql given old new rule (inl ran) = by ran.0
+  where
+    by : Executes sql given old new (Err (SqliteFailure (ConstraintViolation rule))) → IsUnchanged old new
+    unfolding ExecutesIn IsNotRun
+    by (inl (inl unread)) = unread.1
+    by (inl (inr fails)) = absurd (never rule fails.0 fails.1)
+    by (inr run) = elim (cases_Bool (shows_rows false run.0)) [
+      | inl shows ↦ (rw shows at run.2).1
+      | inr runs ↦ elim (rw runs at run.2) [ inl same ↦ same.1 | inr fails ↦ absurd (never rule fails.0 fails.1) ]
+    ]

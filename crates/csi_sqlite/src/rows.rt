@@ -7,8 +7,8 @@ ghost use Rattle.sqlite.specs.Order.{Row as Cells};
 ghost use Rattle.csi_sqlite.specs.Public.Declared.{parts_schema};
 ghost use Rattle.csi_sqlite.specs.Public.Rows.{KeyedRow, cells, without, AreRising, AreByKey, StoresRows, HasColumns, HasRows, IsAtRest, IsBlank, IsInputError};
 ghost use Rattle.csi_sqlite.specs.Public.Listed.{ListsOther};
-ghost use Rattle.csi_sqlite.specs.Private.Changing.{changed_rows, ChangesOrNot};
-ghost use Rattle.csi_sqlite.specs.Public.Statements.{RefusesToMake, GivesRows, RefusesToRead, Inserts, PutsRow, RefusesToChange, RefusesToInsert, RefusesToPut, RemovesRow, RefusesToRemove};
+ghost use Rattle.csi_sqlite.specs.Private.Changing.{changed_rows, ChangesOrNot, inserted_rows, InsertsOrNot};
+ghost use Rattle.csi_sqlite.specs.Public.Statements.{RefusesToMake, GivesRows, RefusesToRead, Inserts, ChangesOrInserts, PutsRow, RefusesToChange, RefusesToInsert, RefusesBoth, RefusesToPut, RemovesRow, RefusesToRemove};
 
 use crate::listed::{lists_nothing, lists_parts};
 use sqlite::{Alter, Connection, Error, ErrorCode, Row, Transaction, params};
@@ -105,7 +105,7 @@ fn change_row<S: Alter>(
     Ok(count != 0)
 }
 
-// Puts a row in, of a key that no row has. An error is SQLite's own at the statement.
+// Inserts a row, whose key no other row has. An error is SQLite's own at the statement.
 fn insert_row<S: Alter>(
     transaction: &mut Transaction<'_, S>,
     key: &[u8],
@@ -114,6 +114,9 @@ fn insert_row<S: Alter>(
     ensures same_reference { transaction.new.conn.ghost_name ≡ transaction.old.conn.ghost_name }
     ensures inserted { HasCleanDisk (state S.Store transaction.new.conn.now) → (rows : List KeyedRow) → HasRows (state S.Store transaction.old.conn.now) rows
         → OnOk result (HasRows (state S.Store transaction.new.conn.now) ((record { key = key.now; value = value.now }) ∷ rows)) }
+    ensures ended { (state S.Store transaction.old.conn.now).in_transaction ≡ false → result ≡ Err (Error.SqliteFailure ErrorCode.TransactionState) }
+    ensures alone { HasCleanDisk (state S.Store transaction.new.conn.now) → (rows : List KeyedRow) → HasRows (state S.Store transaction.old.conn.now) rows
+        → OnOk result (without key.now rows ≡ rows) }
     ensures ran { HasCleanDisk (state S.Store transaction.new.conn.now) → IsTrue (state S.Store transaction.old.conn.now).in_transaction →
         OnOk result (Inserts key.now value.now (state S.Store transaction.old.conn.now) (state S.Store transaction.new.conn.now)) }
     ensures refused { HasCleanDisk (state S.Store transaction.new.conn.now) → IsTrue (state S.Store transaction.old.conn.now).in_transaction →
@@ -127,11 +130,56 @@ fn insert_row<S: Alter>(
     Ok(())
 }
 
-/// Puts a row in, in place of the one of its key if there is one. An error is SQLite's own at one of its two statements.
+// Inserts a row, and answers whether no row was in the way; else nothing is changed. An error is SQLite's own at the statement.
+fn try_to_insert<S: Alter>(
+    transaction: &mut Transaction<'_, S>,
+    key: &[u8],
+    value: &[u8],
+) -> Result<bool, Error>
+    ensures same_reference { transaction.new.conn.ghost_name ≡ transaction.old.conn.ghost_name }
+    ensures inserted { HasCleanDisk (state S.Store transaction.new.conn.now) → (rows : List KeyedRow) → HasRows (state S.Store transaction.old.conn.now) rows
+        → IfOk result (λ done. HasRows (state S.Store transaction.new.conn.now) (inserted_rows done key.now value.now rows)) }
+    ensures ran { HasCleanDisk (state S.Store transaction.new.conn.now) → IsTrue (state S.Store transaction.old.conn.now).in_transaction
+        → IfOk result (λ done. InsertsOrNot S.Store done key.now value.now transaction.old.conn.now transaction.new.conn.now) }
+    ensures refused { HasCleanDisk (state S.Store transaction.new.conn.now) → IsTrue (state S.Store transaction.old.conn.now).in_transaction →
+        IfErr result (RefusesToInsert key.now value.now (state S.Store transaction.old.conn.now) (state S.Store transaction.new.conn.now)) }
+    ensures survives { Survives (state S.Store transaction.old.conn.now) (state S.Store transaction.new.conn.now) (λ _. ⊥) }
+{
+    match insert_row(transaction, key, value) {
+        Ok(()) => Ok(true),
+        Err(Error::SqliteFailure(ErrorCode::ConstraintViolation(_))) => Ok(false),
+        Err(error) => Err(error),
+    }
+}
+
+// Changes the row of a key, or inserts it where there is none. An error is SQLite's own at one of the two statements.
+fn change_or_insert<S: Alter>(
+    transaction: &mut Transaction<'_, S>,
+    key: &[u8],
+    value: &[u8],
+) -> Result<(), Error>
+    ensures same_reference { transaction.new.conn.ghost_name ≡ transaction.old.conn.ghost_name }
+    ensures put { HasCleanDisk (state S.Store transaction.new.conn.now) → (rows : List KeyedRow) → HasRows (state S.Store transaction.old.conn.now) rows
+        → OnOk result (HasRows (state S.Store transaction.new.conn.now) ((record { key = key.now; value = value.now }) ∷ without key.now rows)) }
+    ensures ran { HasCleanDisk (state S.Store transaction.new.conn.now) → IsTrue (state S.Store transaction.old.conn.now).in_transaction →
+        OnOk result (ChangesOrInserts S.Store key.now value.now transaction.old.conn.now transaction.new.conn.now) }
+    ensures refused { HasCleanDisk (state S.Store transaction.new.conn.now) → IsTrue (state S.Store transaction.old.conn.now).in_transaction →
+        IfErr result (RefusesBoth S.Store key.now value.now transaction.old.conn.now transaction.new.conn.now) }
+    ensures survives { Survives (state S.Store transaction.old.conn.now) (state S.Store transaction.new.conn.now) (λ _. ⊥) }
+{
+    if change_row(transaction, key, value)? {
+        return Ok(());
+    }
+    insert_row(transaction, key, value)
+}
+
+/// Puts a row in, in place of the one of its key if there is one. Where it may be new that is tried first: what comes of it is the same, and
+/// takes less if no row has the key. An error is SQLite's own at one of the statements.
 pub fn put_row<S: Alter>(
     transaction: &mut Transaction<'_, S>,
     key: &[u8],
     value: &[u8],
+    may_be_new: bool,
 ) -> Result<(), Error>
     ensures same_reference { transaction.new.conn.ghost_name ≡ transaction.old.conn.ghost_name }
     ensures put { HasCleanDisk (state S.Store transaction.new.conn.now) → (rows : List KeyedRow) → HasRows (state S.Store transaction.old.conn.now) rows
@@ -142,10 +190,10 @@ pub fn put_row<S: Alter>(
         IfErr result (RefusesToPut S.Store key.now value.now transaction.old.conn.now transaction.new.conn.now) }
     ensures survives { Survives (state S.Store transaction.old.conn.now) (state S.Store transaction.new.conn.now) (λ _. ⊥) }
 {
-    if change_row(transaction, key, value)? {
+    if may_be_new && try_to_insert(transaction, key, value)? {
         return Ok(());
     }
-    insert_row(transaction, key, value)
+    change_or_insert(transaction, key, value)
 }
 
 /// Takes out the row of a key, if there is one. An error is SQLite's own at the statement.

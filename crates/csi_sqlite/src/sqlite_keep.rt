@@ -33,12 +33,12 @@ mod half_made;
 mod over;
 mod reading;
 
-use changing::change_at_once;
+use changing::{change_at_once, greatest_of};
 pub use file::close_file;
 pub use found::{close_found, copies, find_at};
 pub use half_made::{BEGUN_LOG, is_half_made};
 pub use over::{OverStore, OverStores, over_file, over_files_at, over_found};
-use reading::parts_of;
+use reading::{last_key, parts_of};
 
 /// A store in a SQLite database: a part is a row of the table `parts`, its key in eight bytes, the greatest first. A commit is
 /// one transaction, and costs what it changes. It never answers `Full`. This profile's own.
@@ -49,6 +49,8 @@ pub struct SqliteKeep<S: Alter> {
     alloc: Global,
     connection: Connection<S>,
     faults: u64,
+    // No row's key is greater, as far as it knows: what is stored doesn't depend on that.
+    greatest: u64,
 }
 
 impl<S: Alter + Drop> Drop for SqliteKeep<S> {
@@ -57,6 +59,7 @@ impl<S: Alter + Drop> Drop for SqliteKeep<S> {
             alloc: _,
             connection: _,
             faults: _,
+            greatest: _,
         } = self;
     }
 }
@@ -127,6 +130,7 @@ impl<S: Alter> SqliteKeep<S> {
                 alloc,
                 connection,
                 faults: 0,
+                greatest: u64::MAX,
             }),
             Err(error) if is_memory(&error) => Err((KeepFault::NoMemory, connection)),
             Err(_) => Err((KeepFault::Device, connection)),
@@ -158,6 +162,7 @@ impl<S: Alter> SqliteKeep<S> {
             alloc: _,
             connection: back,
             faults: _,
+            greatest: _,
         } = self;
         back
     }
@@ -197,7 +202,11 @@ impl<S: Alter> Keep for SqliteKeep<S> {
         ensures outside { (state S.Store self.old.connection).in_transaction ≡ false → (state S.Store self.new.connection).in_transaction ≡ false }
     {
         match all_rows(&mut self.connection) {
-            Ok(rows) => parts_of(self.alloc, &rows),
+            Ok(rows) => {
+                let rows = rows.as_slice();
+                self.greatest = last_key(rows);
+                parts_of(self.alloc, rows)
+            }
             Err(Error::SqlInputError(_)) => Err(KeepFault::BadRecord(0)),
             Err(error) => Err(refused(&mut self.faults, &error)),
         }
@@ -232,8 +241,11 @@ impl<S: Alter> Keep for SqliteKeep<S> {
         if parts.is_empty() {
             return Ok(());
         }
-        match change_at_once(&mut self.connection, parts) {
-            Ok(()) => Ok(()),
+        match change_at_once(&mut self.connection, parts, self.greatest) {
+            Ok(()) => {
+                self.greatest = greatest_of(self.greatest, parts);
+                Ok(())
+            }
             Err(error) => Err(refused(&mut self.faults, &error)),
         }
     }

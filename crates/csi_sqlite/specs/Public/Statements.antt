@@ -3,6 +3,9 @@
 use Rattle.std.specs.Prelude.{◌≢◌, ◌⊎◌, ℕ, List, [], ◌∷◌, codes, Ok, Err}
 use Rattle.sqlite.specs.declared.types.Value.TheVariants.{Blob}
 use Rattle.sqlite.specs.declared.error.Error.{Error}
+use Rattle.sqlite.specs.declared.error.Error.TheVariants.{SqliteFailure}
+use Rattle.sqlite.specs.declared.error.ErrorCode.TheVariants.{ConstraintViolation}
+use Rattle.sqlite_schema.specs.declared.schema.Constraint.{Constraint}
 use Rattle.sqlite.specs.Order.{Row}
 use Rattle.sqlite_trees.specs.declared.store.Store.{Ghosts}
 use Rattle.sqlite.specs.Held.{Held, state}
@@ -62,17 +65,38 @@ module _ {S : Type 0} (g : Ghosts S) where
     pub changes : Changes key value 0 (state g before) (state g after)
     pub survives : Survives (state g before) (state g after) (λ _. ⊥)
 
-  -- SQLite puts this row in, in a transaction: it changes the one of its key; or it finds none, and then inserts this one
-  abbrev pub PutsRow : List ℕ → List ℕ → Held S → Held S → Type 0
-  PutsRow key value before after =
+  -- SQLite changes the row of this key; or it finds none, and then inserts this one
+  abbrev pub ChangesOrInserts : List ℕ → List ℕ → Held S → Held S → Type 0
+  ChangesOrInserts key value before after =
       ((count : ℕ) × (count ≢ 0) × Changes key value count (state g before) (state g after))
       ⊎ ((between : Held S) × FindsNone key value before between × Inserts key value (state g between) (state g after))
 
-  -- SQLite refuses to put this row in, with this error: at the one statement, or at the other
-  abbrev pub RefusesToPut : List ℕ → List ℕ → Held S → Held S → Error → Type 0
-  RefusesToPut key value before after error =
+  -- SQLite refuses to, with this error: at the one statement, or at the other
+  abbrev pub RefusesBoth : List ℕ → List ℕ → Held S → Held S → Error → Type 0
+  RefusesBoth key value before after error =
       RefusesToChange key value (state g before) (state g after) error
       ⊎ ((between : Held S) × FindsNone key value before between × RefusesToInsert key value (state g between) (state g after) error)
+
+  -- a rule of the table refuses to insert this row
+  abbrev pub IsRuledOut : List ℕ → List ℕ → Held S → Held S → Type 0
+  IsRuledOut key value before after = (rule : Constraint) × RefusesToInsert key value (state g before) (state g after) (SqliteFailure (ConstraintViolation rule))
+
+  -- it was tried in vain to insert this row, and nothing is committed by that
+  pub record IsInTheWay (key value : List ℕ) (before after : Held S) : Type 0 where
+    pub refuses : IsRuledOut key value before after
+    pub survives : Survives (state g before) (state g after) (λ _. ⊥)
+
+  -- SQLite puts this row in, in a transaction: it inserts it; or it changes the one of its key, and inserts it if there is none, at once or where a row was in the way
+  abbrev pub PutsRow : List ℕ → List ℕ → Held S → Held S → Type 0
+  PutsRow key value before after =
+      Inserts key value (state g before) (state g after)
+      ⊎ (ChangesOrInserts key value before after ⊎ ((start : Held S) × IsInTheWay key value before start × ChangesOrInserts key value start after))
+
+  -- SQLite refuses to put this row in, with this error, at one of these statements
+  abbrev pub RefusesToPut : List ℕ → List ℕ → Held S → Held S → Error → Type 0
+  RefusesToPut key value before after error =
+      RefusesToInsert key value (state g before) (state g after) error
+      ⊎ (RefusesBoth key value before after error ⊎ ((start : Held S) × IsInTheWay key value before start × RefusesBoth key value start after error))
 
 -- SQLite takes the row of this key out, if there is one, in a transaction
 abbrev pub RemovesRow : List ℕ → State → State → Type 0

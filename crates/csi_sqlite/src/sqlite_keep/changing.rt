@@ -13,8 +13,20 @@ use crate::rows::{put_row, remove_row};
 use csi_stores::Part;
 use sqlite::{Alter, Connection, Error, ErrorCode, Transaction};
 
-// Makes one change. An error is SQLite's own at its statement.
-fn change<S: Alter>(transaction: &mut Transaction<'_, S>, part: &Part) -> Result<(), Error>
+/// The greatest key of these parts, or this one, if that is greater.
+pub(crate) fn greatest_of(mut greatest: u64, parts: &[Part]) -> u64 {
+    for part in parts {
+        greatest = greatest.max(part.key);
+    }
+    greatest
+}
+
+// Makes one change. An error is SQLite's own at its statement. Whether the row may be new only says what is tried first.
+fn change<S: Alter>(
+    transaction: &mut Transaction<'_, S>,
+    part: &Part,
+    may_be_new: bool,
+) -> Result<(), Error>
     ensures same_reference { transaction.new.conn.ghost_name ≡ transaction.old.conn.ghost_name }
     ensures changed { HasCleanDisk (state S.Store transaction.new.conn.now) → (content : List StoredPart) →
         HasParts (state S.Store transaction.old.conn.now) content
@@ -29,13 +41,17 @@ fn change<S: Alter>(transaction: &mut Transaction<'_, S>, part: &Part) -> Result
 {
     let key = part.key.to_be_bytes();
     match &part.value {
-        Some(value) => put_row(transaction, &key, value),
+        Some(value) => put_row(transaction, &key, value, may_be_new),
         None => remove_row(transaction, &key),
     }
 }
 
 // Makes the changes, one after another. An error is SQLite's own at one of them, and one that follows at the commit is after them all.
-fn change_all<S: Alter>(transaction: &mut Transaction<'_, S>, parts: &[Part]) -> Result<(), Error>
+fn change_all<S: Alter>(
+    transaction: &mut Transaction<'_, S>,
+    parts: &[Part],
+    mut greatest: u64,
+) -> Result<(), Error>
     ensures same_reference { transaction.new.conn.ghost_name ≡ transaction.old.conn.ghost_name }
     ensures changed { HasCleanDisk (state S.Store transaction.new.conn.now) → (content : List StoredPart) →
         HasParts (state S.Store transaction.old.conn.now) content
@@ -49,7 +65,8 @@ fn change_all<S: Alter>(transaction: &mut Transaction<'_, S>, parts: &[Part]) ->
     ensures survives { Survives (state S.Store transaction.old.conn.now) (state S.Store transaction.new.conn.now) (λ _. ⊥) }
 {
     for part in parts {
-        change(transaction, part)?;
+        change(transaction, part, part.key > greatest)?;
+        greatest = greatest.max(part.key);
     }
     Ok(())
 }
@@ -59,6 +76,7 @@ fn change_all<S: Alter>(transaction: &mut Transaction<'_, S>, parts: &[Part]) ->
 pub(crate) fn change_at_once<S: Alter>(
     connection: &mut Connection<S>,
     parts: &[Part],
+    greatest: u64,
 ) -> Result<(), Error>
     ensures clean { HasCleanDisk (state S.Store connection.new) → HasCleanDisk (state S.Store connection.old) }
     ensures done { HasCleanDisk (state S.Store connection.new) → (content : List StoredPart) → HoldsParts (state S.Store connection.old) content
@@ -74,6 +92,6 @@ pub(crate) fn change_at_once<S: Alter>(
         return Err(Error::SqliteFailure(ErrorCode::TransactionState));
     }
     let mut transaction = connection.transaction();
-    change_all(&mut transaction, parts)?;
+    change_all(&mut transaction, parts, greatest)?;
     transaction.commit()
 }

@@ -104,6 +104,7 @@ impl<D: Disk + Drop> SqliteKeep<FileStore<D>> {
             alloc: _,
             connection: back,
             faults: _,
+            greatest: _,
         } = self;
         match back.close_files() {
             Ok(files) => Ok(files),

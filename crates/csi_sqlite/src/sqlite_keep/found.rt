@@ -63,6 +63,7 @@ impl<D: Disk + Drop> SqliteKeep<FileStore<D>> {
             alloc: _,
             connection: back,
             faults: _,
+            greatest: _,
         } = self;
         let _ = files_listed_other(back);
     }

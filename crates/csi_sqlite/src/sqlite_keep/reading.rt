@@ -88,3 +88,15 @@ pub(crate) fn parts_of(alloc: Global, rows: &[Row]) -> Result<Vec<Part>, KeepFau
     }
     Ok(parts)
 }
+
+/// The key of the last row, where it is a part's: no row has a greater one, by rising key. It is 0 where there is no row, and 2^64 - 1 where
+/// the last is no part.
+pub(crate) fn last_key(rows: &[Row]) -> u64 {
+    let Some(row) = rows.last() else {
+        return 0;
+    };
+    match blob_of(value_at(row, 0)) {
+        Some(key) if key.len() == 8 => number_of(key),
+        _ => u64::MAX,
+    }
+}
