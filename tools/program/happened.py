@@ -12,7 +12,7 @@ NAMES = {number: name for name, number in KINDS.items()}
 STATUSES = ("OK", "CANCELLED", "UNKNOWN", "INVALID_ARGUMENT", "DEADLINE_EXCEEDED", "NOT_FOUND", "ALREADY_EXISTS", "PERMISSION_DENIED")
 STATUSES += ("RESOURCE_EXHAUSTED", "FAILED_PRECONDITION", "ABORTED", "OUT_OF_RANGE", "UNIMPLEMENTED", "INTERNAL", "UNAVAILABLE", "DATA_LOSS")
 STATUSES += ("UNAUTHENTICATED",)
-WRONG = r"refused .*|no such frame|no such node|node there|not settled \d+"
+WRONG = r"refused .*|no such frame|no such node|node there|not settled \d+|not recovered .*"
 
 
 @dataclass
@@ -134,8 +134,15 @@ class Lanes:
         for at, (event, came) in enumerate(zip(run.events, run.outcomes)):
             if came == "joined":
                 self.parts[event["join"]].append((at + 1, None))
-            elif came == "lost" and (parts := self.parts.get(event["lose"])) and parts[-1][1] is None:
-                parts[-1] = parts[-1][0], at + 1
+            for parts in map(self.parts.get, self.lost_by(event, came)):
+                if parts and parts[-1][1] is None:
+                    parts[-1] = parts[-1][0], at + 1
+
+    def lost_by(self, event, came):
+        """The nodes that are no more after an event: the one that is lost, and those whose stores a recovery doesn't have."""
+        if came == "lost":
+            return [event["lose"]]
+        return [it for it in self.ids if it not in event["recover"]["given"]] if came == "recovered" else []
 
     def names(self):
         return ["orchestrator", "controller", *(f"node {escaped(it)}" for it in self.ids)]
@@ -156,10 +163,9 @@ def bars_of(run, lanes):
     """The bars, and those of things that are there at the end."""
     bars, there = [], {}
     for at, (event, came) in enumerate(zip(run.events, run.outcomes)):
-        gone = []
-        if came == "lost":
-            gone = [it for it in there if it[0] == lanes.of(event["lose"])]
-        elif came.startswith("answered") and run.frames[sent_by(came)].status == 0:
+        lost = {lanes.of(node) for node in lanes.lost_by(event, came)}
+        gone = [it for it in there if it[0] in lost]
+        if came.startswith("answered") and run.frames[sent_by(came)].status == 0:
             call = run.frames[event["deliver"]]
             thing = lanes.of(call.node), BEGINS.get(call.kind) or ENDS.get(call.kind), call.volume, call.place
             if call.kind in ENDS and thing in there:
@@ -193,6 +199,8 @@ def told(event):
         return f"{key} {escaped(value['name'])} at {escaped(value['node'])} {escaped(value['target'])}"
     if key == "create":
         return f"create {escaped(value['name'])}"
+    if key == "recover":
+        return f"recover {value['session']}"
     if key == "restart_orchestrator":
         return "restart orchestrator with a list"
     if key == "restart_controller":
@@ -207,7 +215,7 @@ def class_of(outcome):
 def mark_of(lanes, event, outcome):
     """The shape and the lane of an event's mark; a delivery has none."""
     ((key, value),) = event.items()
-    comes = key.startswith("restart") or key in ("join", "lose")
+    comes = key.startswith("restart") or key in ("join", "lose", "recover")
     shape = "cross" if class_of(outcome) == "wrong" else "clock" if key == "timeout" else "restart" if comes else "command"
     at_controller = key == "restart_controller" or (key, value) == ("restart", "controller")
     return shape, lanes.of(value) if key in ("restart_node", "join", "lose") else 2 if at_controller else 1

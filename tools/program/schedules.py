@@ -77,6 +77,13 @@ REFUSED = [
     ("a loss of 256 bytes", *bad_event(b'{"lose":"%s"}' % (b"n" * 256))),
     ("an empty name that is to settle", *bad_event(EVENT, b'{"settle":""}')),
     ("a name of 129 bytes that is to settle", *bad_event(b'{"settle":"%s"}' % (b"v" * 129))),
+    ("a recovery without a session", *bad_event(EVENT, b'{"recover":{"given":[],"nodes":[]}}')),
+    ("a recovery with a key too many", *bad_event(b'{"recover":{"given":[],"nodes":[],"session":2,"x":0}}')),
+    ("a recovery with an empty id", *bad_event(b'{"recover":{"given":[""],"nodes":[],"session":2}}')),
+    ("a recovery with a list that is none", *bad_event(b'{"recover":{"given":[],"nodes":{},"session":2}}')),
+    ("a recovery, and another key", *bad_event(b'{"recover":{"given":[],"nodes":[],"session":2},"deliver":1}')),
+    ("a bad event behind a recovery", *bad_event(b'{"recover":{"given":[],"nodes":[],"session":2}}', EVENT, b'{"recover":2}')),
+    ("100,001 events, one of them a recovery", TOO_MANY, schedule(b",".join([b'{"recover":{"given":[],"nodes":[],"session":2}}'] + [EVENT] * 100_000))),
     ("nine capabilities", *bad_event((CREATE % (b"1", b"0", b"v")).replace(b"}]", b'}' + b',{"access":"block","mode":1}' * 8 + b"]"))),
     ("a bad event at the end of 100,000", *bad_event(*[EVENT] * 99_999, b"{}")),
     ("no UTF-8", "not UTF-8", b"\xff"),
@@ -110,6 +117,7 @@ REPORTED = [
             b'{"settle":"v"},{"lose":"n1"},{"settle":"v"}'
         ),
     ),
+    ("a recovery at first", (NO_FRAME % b'"recovered"').replace(b'"session":1', b'"session":2'), schedule(b'{"recover":{"session":2,"nodes":["n1"],"given":[]}}')),
     ("100,000 events", NO_FRAME % b",".join([b'"no such frame"'] * 100_000), schedule(b",".join([EVENT] * 100_000))),
     ("other keys' order, blanks, a repeated key", NO_FRAME % b"", b' { "events" : [ ] , "config" : [ ] , "config" : {"nodes":[],"greatest":1} } \n'),
     (
@@ -148,6 +156,11 @@ def stop(node, target="/a"):
 
 MADE = [(MAKES_V, "sent 1"), *delivered(1, 2)]
 USED = [*MADE, (use("n1"), "sent 3"), *delivered(3, 8, (4, 6))]
+def recover(session, given, nodes):
+    return {"recover": {"given": given, "nodes": nodes, "session": session}}
+
+
+BOTH = ["n1", "n2"]
 AT_N1 = {"id": 1, "mode": 1, "node": "n1", "readonly": False}
 MORE = [f"m{at}" for at in range(126)]  # nodes beside n1 and n2
 CHANGED = [
@@ -186,6 +199,40 @@ CHANGED = [
         ({"restart_controller": config(*MORE[62:])}, "restarted"), *(({"lose": node}, "lost") for node in ["n1", "n2", *MORE]),
         ({"lose": "n1"}, "no such node"),
     ], {"session": 1 + 1 + 128}),
+    ("a recovery", [
+        *USED, (recover(9, BOTH, BOTH), "recovered"), ({"deliver": 7}, "answered 9"), ({"deliver": 9}, "ignored"), (use("n1"), "met"),
+        (stop("n1"), "sent 10"), *delivered(10, 15, (11, 13)),
+    ], {"session": 9, "attached": [], "staged": [], "published": [], "known": [{"known": "yes", "name": "v", "thing": "exists"}]}),
+    ("a recovery of which a node isn't given", [
+        *USED, (recover(9, ["n2"], ["n2"]), "recovered"), ({"deliver": 7}, "no such node"), (use("n2"), "refused 7 HeldElsewhere"),
+        (stop("n1", "/any"), "sent 9"), *delivered(9, 10), (use("n2"), "sent 11"), *delivered(11, 16, (12, 14)), ({"join": "n1"}, "joined"),
+    ], {"session": 9, "attached": [{**AT_N1, "node": "n2"}]}),
+    ("a recovery with a node that isn't there", [
+        *USED, (recover(9, ["n9", "n1"], ["n1", "n9"]), "recovered"), ({"restart_node": "n2"}, "no such node"), ({"restart_node": "n9"}, "no such node"),
+        ({"restart_node": "n1"}, "restarted"), ({"restart": "orchestrator"}, "restarted"), (use("n1"), "met"),
+    ], {"session": 10, "attached": [AT_N1]}),
+    ("a recovery in a session that isn't later than the lost one's", [
+        *USED, (recover(0, BOTH, BOTH), "not recovered NotLater"), (recover(1, BOTH, BOTH), "not recovered NotLater"),
+        ({"restart": "orchestrator"}, "restarted"), (recover(2, BOTH, BOTH), "not recovered NotLater"), ({"deliver": 7}, "answered 9"), (use("n1"), "met"),
+        (recover(3, BOTH, BOTH), "recovered"),
+    ], {"session": 3, "attached": [AT_N1]}),
+    ("a recovery whose list leaves out a node with something staged", [
+        *USED, (recover(9, BOTH, ["n2"]), "not recovered BadRow"), (recover(9, BOTH, []), "not recovered BadRow"), (use("n1"), "met"),
+        (recover(9, ["n2"], []), "recovered"), (use("n2"), "refused 5 NoSuchNode"),
+    ], {"session": 9, "attached": [AT_N1], "staged": []}),
+    ("a recovery whose list isn't one", [
+        *USED, (recover(9, BOTH, ["n1", "n2", "n1"]), "not recovered BadNodes"), (recover(9, BOTH, [*BOTH, *MORE[:63]]), "not recovered BadNodes"),
+        (recover(9, BOTH, [*BOTH, *MORE[:62]]), "recovered"),
+    ], {"session": 9, "attached": [AT_N1]}),
+    ("a recovery of a use that was cut short", [
+        *MADE, (use("n1"), "sent 3"), *delivered(3, 4, (4,)), ({"deliver": 5}, "answered 6"), (recover(9, BOTH, BOTH), "recovered"), ({"deliver": 6}, "ignored"),
+        (use("n2"), "refused 4 Busy"), ({"settle": "v"}, "settled 5"), ({"deliver": 5}, "answered 11"), (use("n2"), "sent 12"), *delivered(12, 17, (13, 15)),
+    ], {"session": 9, "attached": [{**AT_N1, "node": "n2"}], "frames": 17}),
+    ("two recoveries", [
+        *USED, (recover(9, BOTH, BOTH), "recovered"), (stop("n1"), "sent 9"), ({"deliver": 9}, "answered 10"), (recover(9, BOTH, BOTH), "not recovered NotLater"),
+        (recover(12, ["n1"], ["n1"]), "recovered"), ({"deliver": 10}, "ignored"), ({"settle": "v"}, "settled 5"), ({"deliver": 9}, "answered 15"),
+        ({"deliver": 15}, "ignored"), ({"deliver": 7}, "answered 16"),
+    ], {"session": 12, "attached": [], "frames": 16}),
     ("a name that is free again", [
         *MADE, ({"delete": "v"}, "sent 3"), *delivered(3, 4), (MAKES_V, "refused 1 NameUsed"), ({"restart": "orchestrator"}, "restarted"),
         ({"delete": "v"}, "refused 2 NoSuchVolume"), (MAKES_V, "sent 5"), ({"deliver": 1}, "answered 6"), ({"deliver": 6}, "ignored"),
@@ -245,7 +292,7 @@ def examples(box):
     for name in names:
         with open(f"{folder}/{name[:-5]}.report", "rb") as file:
             box.wants(ended(0, out=file.read()), "run", f"{folder}/{name}")
-    for name in ("late_detach", "lost_node", "settled"):
+    for name in ("late_detach", "lost_node", "recovered", "settled"):
         with open(f"{TOP}/docs/{name}.svg", "rb") as file:
             box.wants(ended(0, out=file.read()), "draw", f"{folder}/{name}.json")
 

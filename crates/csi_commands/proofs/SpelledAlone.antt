@@ -1,5 +1,5 @@
 -- Events that settle nothing tell themselves.
-use Rattle.std.proofs.Common.{◌≡◌, List, [], ◌∷◌, false, refl, ap, sym}
+use Rattle.std.proofs.Common.{◌≡◌, List, [], ◌∷◌, map, false, refl, ap, sym}
 use Rattle.std.specs.List.{list_any}
 use Rattle.std.proofs.lemmas.Bool.{true≢false}
 use Rattle.csi_types.specs.Model.Config.{Config}
@@ -8,9 +8,10 @@ use Rattle.csi_types.specs.declared.event.Event.TheVariants.{Create, Use, Stop, 
 use Rattle.csi_world.specs.Model.World.{World, empty_world}
 use Rattle.csi_world.specs.Model.After.{occurs}
 use Rattle.csi_world.specs.Public.Settling.{spelled_from, spelled_out}
-use Rattle.csi_commands.specs.Private.Running.{is_settling}
+use Rattle.csi_json.specs.declared.happening.Happening.TheVariants.{Occurs}
+use Rattle.csi_commands.specs.Public.Running.{settles}
 
-spelled-alone : (world : World) (events : List Event) → list_any is_settling events ≡ false → spelled_from world events ≡ events
+spelled-alone : (world : World) (events : List Event) → list_any settles (map Occurs events) ≡ false → spelled_from world events ≡ events
 spelled-alone world [] none = refl
 spelled-alone world (Create name required limit capabilities ∷ others) none = ap (λ es. Create name required limit capabilities ∷ es) (spelled-alone (occurs world (Create name required limit capabilities)).world others none)
 spelled-alone world (Use name node target capability readonly ∷ others) none = ap (λ es. Use name node target capability readonly ∷ es) (spelled-alone (occurs world (Use name node target capability readonly)).world others none)
@@ -28,5 +29,5 @@ spelled-alone world (Lose node ∷ others) none = ap (λ es. Lose node ∷ es) (
 spelled-alone world (Settle name ∷ others) none = absurd (true≢false none)
 
 -- so do those of a run
-pub told-alone : (config : Config) (events : List Event) → list_any is_settling events ≡ false → events ≡ spelled_out config events
+pub told-alone : (config : Config) (events : List Event) → list_any settles (map Occurs events) ≡ false → events ≡ spelled_out config events
 told-alone config events none = sym (spelled-alone (empty_world config) events none)

@@ -1,3 +1,4 @@
 pub mod Running
 pub mod Ending
 pub mod Streaming
+pub mod Playing

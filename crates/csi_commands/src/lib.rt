@@ -4,8 +4,10 @@
 
 mod commands;
 mod drawing;
+mod playing;
 mod running;
 mod streaming;
+mod telling;
 
 pub use commands::file;
 pub use csi_streams::{AnswerFault, StreamFault, answer, answer_from, show, show_from};

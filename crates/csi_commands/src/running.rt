@@ -1,20 +1,21 @@
 //! A schedule, run to its report, to the frames that it sends, or to its picture.
 ghost use Rattle.std.specs.Prelude.{◌≡◌, IfOk, IfErr, OnOk, OnErr};
-ghost use Rattle.std.specs.List.{flat_map, list_any};
+ghost use Rattle.std.specs.List.{flat_map};
 ghost use Rattle.std.specs.Str.{IsUtf8};
 ghost use Rattle.csi_frames.specs.Public.Spelling.{spelling};
-ghost use Rattle.csi_json.specs.Public.Schedule.{text_schedule};
-ghost use Rattle.csi_commands.specs.Public.Running.{IsReportLine, IsGivenOf, IsGiven, events_of as events_by, Plays, IsScheduleRefused};
-ghost use Rattle.csi_world.specs.Public.Settling.{spelled_out};
-ghost use Rattle.csi_commands.specs.Private.Running.{refusal_of as refusal, is_settling};
+ghost use Rattle.csi_json.specs.Public.Schedule.{text_schedule, schedule_shown, BeginsWithRecovery};
+ghost use Rattle.csi_commands.specs.Public.Running.{IsReportLine, IsGivenOf, IsGiven, IsRunAs, Plays, IsScheduleRefused};
+ghost use Rattle.csi_commands.specs.Private.Running.{refusal_of as refusal};
 
 use crate::drawing::Draws;
+use crate::playing::played;
+use crate::telling::told;
 use csi_endings::{Ending, ScheduleCommand};
 use csi_frames::encode;
-use csi_json::{ScheduleFault, read_schedule};
+use csi_json::{Schedule, ScheduleFault, read_schedule};
 use csi_reports::report;
-use csi_types::{Config, NoMemory};
-use csi_world::{Event, World, simulate, told_one_by_one};
+use csi_types::NoMemory;
+use csi_world::World;
 use std::alloc::Global;
 
 // The ending where a text is no schedule.
@@ -28,8 +29,9 @@ fn refusal_of(fault: ScheduleFault) -> Ending
 }
 
 // The schedule that the bytes say.
-fn schedule_in(alloc: Global, input: &[u8]) -> Result<(Config, Vec<Event>), Ending>
-    ensures read { IfOk result (λ made. text_schedule input.now ≡ Ok (record { config = made.0; events = made.1.items })) }
+fn schedule_in(alloc: Global, input: &[u8]) -> Result<Schedule, Ending>
+    ensures read { IfOk result (λ made. text_schedule input.now ≡ Ok (schedule_shown made)) }
+    ensures onward { IfOk result (λ made. BeginsWithRecovery made.on.items) }
     ensures refused { IfErr result (IsScheduleRefused input.now) }
     ensures utf8 { OnOk result (IsUtf8 input.now) }
 {
@@ -63,74 +65,50 @@ fn frames_of(alloc: Global, world: &World) -> Result<Vec<u8>, NoMemory>
     Ok(bytes)
 }
 
-// What the command gives of a world, to which these events led from the configuration.
+// What the command gives of a world, to which this schedule led.
 fn given_of<D: Draws>(
     alloc: Global,
     command: ScheduleCommand,
-    config: &Config,
-    events: &[Event],
+    schedule: &Schedule,
     world: &World,
 ) -> Result<Vec<u8>, NoMemory>
-    ensures { IfOk result (λ given. IsGivenOf D.draws command (record { config = config.now; events = events.now }) world.now given.items) }
+    ensures { IfOk result (λ given. IsGivenOf D.draws command (schedule_shown schedule.now) world.now given.items) }
 {
     match command {
         ScheduleCommand::Run => line_of(alloc, world),
         ScheduleCommand::Frames => frames_of(alloc, world),
-        ScheduleCommand::Draw => D::draw(alloc, config, world, events),
+        ScheduleCommand::Draw => D::draw(alloc, schedule, world),
     }
 }
 
-// What the command gives of the world to which these events lead.
+// What the command gives of the world to which this schedule leads.
 fn given<D: Draws>(
     alloc: Global,
     command: ScheduleCommand,
-    config: &Config,
-    events: &[Event],
+    schedule: &Schedule,
 ) -> Result<Vec<u8>, NoMemory>
-    ensures { IfOk result (λ given. IsGiven D.draws command (record { config = config.now; events = events.now }) given.items) }
+    ensures { IfOk result (λ given. IsGiven D.draws command (schedule_shown schedule.now) given.items) }
 {
-    let world = simulate(alloc, config, events)?;
-    given_of::<D>(alloc, command, config, events, &world)
+    let world = played(alloc, schedule)?;
+    given_of::<D>(alloc, command, schedule, &world)
 }
 
-// Whether one of these events settles a volume.
-fn has_settling(events: &[Event]) -> bool
-    ensures { result ≡ list_any is_settling events.now }
-{
-    events.iter().any(|event| matches!(event, Event::Settle(_)))
-}
-
-// The events of a run, told by events that settle nothing. Where none does, it needn't be run for that.
-fn spelled(alloc: Global, config: &Config, events: Vec<Event>) -> Result<Vec<Event>, NoMemory>
-    ensures { IfOk result (λ told. told.items ≡ spelled_out config.now events.items) }
-{
-    if has_settling(&events) {
-        told_one_by_one(alloc, config, events)
-    } else {
-        Ok(events)
-    }
-}
-
-// The events of a schedule that the command runs: those that it has; and to be drawn, those that what settles a volume stands for.
-fn events_of(
-    alloc: Global,
-    command: ScheduleCommand,
-    config: &Config,
-    events: Vec<Event>,
-) -> Result<Vec<Event>, NoMemory>
-    ensures { IfOk result (λ run. run.items ≡ events_by command (record { config = config.now; events = events.items })) }
+// The schedule as the command runs it: as it is; and to be drawn, told by the events that what settles a volume stands for.
+fn run_as(alloc: Global, command: ScheduleCommand, schedule: Schedule) -> Result<Schedule, NoMemory>
+    ensures { BeginsWithRecovery schedule.on.items → IfOk result (λ told. IsRunAs command (schedule_shown schedule) (schedule_shown told)) }
 {
     match command {
-        ScheduleCommand::Run | ScheduleCommand::Frames => Ok(events),
-        ScheduleCommand::Draw => spelled(alloc, config, events),
+        ScheduleCommand::Run | ScheduleCommand::Frames => Ok(schedule),
+        ScheduleCommand::Draw => told(alloc, schedule),
     }
 }
 
-/// Reads `input` as a schedule, lets its events happen one after another to an empty world, and appends to `out` what the
+/// Reads `input` as a schedule, lets its events and recoveries happen one after another to an empty world, and appends to `out` what the
 /// command gives of the world: its report and a newline, the spellings of all frames that were sent, in order,
-/// or its picture. To be drawn, what settles a volume happens as its timeout and its deliveries, each an event of its own, to the same
-/// world. An `Err` appends nothing: `NotUtf8` and `ScheduleFault` say what is wrong with the input, in this order, and `Memory` that
-/// an allocation was refused. The report is this profile's own.
+/// or its picture. Every world on the way is safe, whatever the events and recoveries are, as `safety_law` and `recovery_law` say it; a
+/// recovery that isn't what `recovery_law` allows is refused. To be drawn, what settles a volume happens as its timeout and its
+/// deliveries, each an event of its own, to the same world. An `Err` appends nothing: `NotUtf8` and `ScheduleFault` say what is wrong with
+/// the input, in this order, and `Memory` that an allocation was refused. The report is this profile's own.
 pub fn play<D: Draws>(
     alloc: Global,
     command: ScheduleCommand,
@@ -141,9 +119,9 @@ pub fn play<D: Draws>(
     ensures refused { IfErr result (IsScheduleRefused input.now) }
     ensures err { OnErr result (out.new.items ≡ out.old.items) }
 {
-    let (config, events) = schedule_in(alloc, input)?;
-    let events = events_of(alloc, command, &config, events)?;
-    let given = given::<D>(alloc, command, &config, &events)?;
+    let schedule = schedule_in(alloc, input)?;
+    let told = run_as(alloc, command, schedule)?;
+    let given = given::<D>(alloc, command, &told)?;
     out.extend_from_slice(&given)?;
     Ok(())
 }

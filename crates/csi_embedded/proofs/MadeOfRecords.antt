@@ -1,5 +1,5 @@
 -- An orchestrator that is made of what handles have, from what is made of their records.
-use Rattle.std.proofs.Common.{◌≡◌, ◌∙◌, ◌<◌, ◌≤◌, ◌+◌, ◌^◌, ℕ, Bool, true, false, cond, not, ◌&&◌, nat_lt, List, [], ◌∷◌, map, filter, refl, sym, ap, subst, inl, inr, arith}
+use Rattle.std.proofs.Common.{◌≡◌, ◌∙◌, ◌<◌, ◌≤◌, ◌+◌, ◌^◌, ℕ, Bool, true, false, cond, not, ◌&&◌, nat_lt, List, [], ◌∷◌, refl, sym, ap, subst, inl, inr, arith}
 use Rattle.std.specs.Prelude.{Option, Some, None, is_none}
 use Rattle.std.specs.List.{list_any}
 use Rattle.std.proofs.lemmas.Bool.{true≢false, ltb-false}
@@ -7,19 +7,20 @@ use Rattle.csi_lists.proofs.Options.{some_is_not_none}
 use Rattle.csi_lists.proofs.Tests.{then-any, any-none}
 use Rattle.csi_types.specs.Model.Same.{same_text}
 use Rattle.csi_types.proofs.Equality.{same_text-tells}
-use Rattle.csi_controller.specs.Model.State.{ControllerState, Volume}
+use Rattle.csi_controller.specs.Model.State.{ControllerState}
 use Rattle.csi_controller.specs.Public.Views.{RecordParts}
 use Rattle.csi_node.specs.Model.Record.{NodeParts}
 use Rattle.csi_orchestrator.specs.declared.fault.OrchFault.{OrchFault}
 use Rattle.csi_orchestrator.specs.declared.fault.OrchFault.TheVariants as refusals
 use Rattle.csi_orchestrator.specs.Model.Shown.{RowShown}
-use Rattle.csi_orchestrator.specs.Public.Beginning.{remembered, is_used_in, leaves_out_used, restart_refusal}
+use Rattle.csi_orchestrator.specs.Public.Beginning.{is_used_in, leaves_out_used, restart_refusal}
 use Rattle.csi_orchestrator.specs.Public.Laws.{opened_parts}
 use Rattle.csi_orchestrator.specs.Public.Record.{RecordParts as OrchestratorKept, AreNodesFit}
 use Rattle.csi_recovery.specs.declared.fault.RecoveryFault.{RecoveryFault}
 use Rattle.csi_recovery.specs.declared.fault.RecoveryFault.TheVariants as faults
+use Rattle.csi_recovery.proofs.OpenedAgain.{opened-next}
 use Rattle.csi_recovery.specs.Public.Judged.{IsKeptOf, IsGiven, AreGiven, record_of, IsRecoveryRefusal}
-use Rattle.csi_world.specs.Public.Recovered.{GivenNode, recovered, recovered_row, recovered_rows, MayRecover}
+use Rattle.csi_world.specs.Public.Recovered.{GivenNode, recovered, recovered_rows, MayRecover}
 use Rattle.csi_service.specs.Public.OrchestratorOpening.{opening_refusal}
 use Rattle.csi_embedded.specs.declared.ending.Ending.{Ending}
 use Rattle.csi_embedded.specs.declared.ending.Ending.TheVariants.{NoMemory, Empty, BadName, Refused, OtherKind, SameNode, NotLater, Disagrees, BadRow}
@@ -117,22 +118,6 @@ none-said text session controller nodes place BadName none = inl none
 none-said text session controller nodes place _ none = absurd none
 
 -- ---- the orchestrator
-
--- each row of a recovery is remembered
-all-remembered : (controller : ControllerState) (known : List GivenNode) (volumes : List Volume)
-    → remembered (map (recovered_row controller known) volumes) ≡ map (recovered_row controller known) volumes
-all-remembered controller known [] = refl
-all-remembered controller known (volume ∷ volumes) = ap (λ (rows : List RowShown). recovered_row controller known volume ∷ rows) (all-remembered controller known volumes)
-
--- what is opened of what was recovered is what is recovered for the session after
-opened-next : (nodes : List (List ℕ)) (session : ℕ) (controller : ControllerState) (known : List GivenNode)
-    → opened_parts (record_of (recovered nodes session controller known)) nodes ≡ recovered nodes (session + 1) controller known
-opened-next nodes session controller known =
-    (λ i. record {
-      nodes = nodes;
-      last = record { session = session + 1; call = 0 };
-      rows = all-remembered controller known (filter (λ volume. volume.is_live) controller.volumes) i;
-    })
 
 -- each node of a list is in it, so none is left out
 none-left-out : (nodes : List (List ℕ)) (rows : List RowShown) → leaves_out_used nodes nodes rows ≡ false

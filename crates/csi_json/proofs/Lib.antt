@@ -1,7 +1,7 @@
 pub mod Items
 pub mod OwnedValues
 pub mod ReadLists
-pub mod ReadEvents
+pub mod ReadHappenings
 pub mod PlainTexts
 pub mod PlainSchedules
 pub mod EventTokens
@@ -9,3 +9,4 @@ pub mod UsualCommands
 pub mod HexTexts
 pub mod LineTexts
 pub mod AskedCommands
+mod EventsHappen

@@ -22,7 +22,8 @@ use Rattle.csi_json.specs.Public.Json.{number_of, sized_object, list_of, items_i
 use Rattle.csi_json.specs.Public.Configs.{config_of}
 use Rattle.csi_json.specs.Public.Events.{event_of, event_at, deliver_of}
 use Rattle.csi_json.specs.Private.Plain.{event_in, SaysConfig, SaysEvents, SaysSchedule}
-use Rattle.csi_json.specs.Public.Schedule.{Schedule, config_and_events, events_of, schedule_read, text_schedule}
+use Rattle.csi_json.specs.Public.Schedule.{config_and_events}
+use Rattle.csi_json.specs.Private.EventSchedules.{Schedule, events_of, schedule_read, text_schedule}
 use Rattle.csi_json.proofs.OwnedValues.{Member}
 
 -- what is found behind a value that was read, was found in it

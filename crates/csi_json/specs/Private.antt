@@ -1,3 +1,4 @@
 pub mod Json
 pub mod Configs
 pub mod Plain
+pub mod EventSchedules

@@ -3,6 +3,7 @@ pub mod Capabilities
 pub mod Configs
 pub mod Faults
 pub mod Events
+pub mod Happenings
 pub mod Schedule
 pub mod Hexadecimal
 pub mod Requests

@@ -115,9 +115,9 @@ fn restart_controller_event(alloc: Global, value: &Value) -> Result<Event, Flaw>
     Ok(Event::RestartControllerWith(config))
 }
 
-// The ids of nodes that an array has.
+/// The ids of nodes that an array has.
 #[tactic(auto, unfolding(crate::specs::Public::Json::all_of))]
-fn ids(alloc: Global, value: &Value) -> Result<Vec<NodeId>, Flaw>
+pub fn ids(alloc: Global, value: &Value) -> Result<Vec<NodeId>, Flaw>
     ensures { Reads (λ ids. ids.items) result (all_of node_id_of (view value.now)) }
 {
     let items = list(value)?;

@@ -6,6 +6,7 @@ mod borrowed;
 mod configs;
 mod events;
 mod fault;
+mod happening;
 mod hexadecimal;
 mod lists;
 mod plain;
@@ -18,7 +19,8 @@ mod values;
 
 pub use configs::read_config;
 pub use fault::ScheduleFault;
+pub use happening::{Happening, Recovery};
 pub use hexadecimal::hexadecimal_law;
 pub use request::{Request, read_request};
 pub use request_fault::RequestFault;
-pub use schedule::{MAX_EVENTS, read_schedule};
+pub use schedule::{MAX_EVENTS, Schedule, read_schedule};

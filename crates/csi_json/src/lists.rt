@@ -5,17 +5,17 @@ ghost use Rattle.csi_json.specs.Private.Json.{Reads, WantsOnly, HasItems};
 ghost use Rattle.csi_json.specs.Public.Json.{read_all, unless_bad, node_id_of};
 ghost use Rattle.csi_json.specs.Public.Capabilities.{capability_of};
 ghost use Rattle.csi_json.specs.Public.Configs.{node_of};
-ghost use Rattle.csi_json.specs.Public.Events.{event_of};
+ghost use Rattle.csi_json.specs.Public.Happenings.{happening_of};
 ghost use Rattle.csi_json.specs.Public.Faults.{event_fault, IsScheduleFault};
-ghost use Rattle.csi_json.specs.Public.Schedule.{events_or_fault};
+ghost use Rattle.csi_json.specs.Public.Schedule.{happenings_or_fault};
 
 use crate::access::capability;
 use crate::configs::node;
-use crate::events::event;
 use crate::fault::ScheduleFault;
+use crate::happening::{Happening, what_happens};
 use crate::texts::node_id;
 use crate::values::Flaw;
-use csi_types::{Capability, Event, NodeId, NodeSlots};
+use csi_types::{Capability, NodeId, NodeSlots};
 use serde_json::Value;
 use std::alloc::Global;
 
@@ -80,12 +80,12 @@ pub fn read_ids(alloc: Global, items: &[Value]) -> Result<Vec<NodeId>, Flaw>
     Ok(list)
 }
 
-// Reads an event, and appends it. An `Err` appends nothing.
-fn push_event(alloc: Global, value: &Value, list: &mut Vec<Event>) -> Result<(), Flaw>
-    ensures { Reads (λ _. list.new.items) result (option_map (λ read. list.old.items ++ read ∷ []) (event_of (view value.now))) }
+// Reads what happens, and appends it. An `Err` appends nothing.
+fn push_happening(alloc: Global, value: &Value, list: &mut Vec<Happening>) -> Result<(), Flaw>
+    ensures { Reads (λ _. list.new.items) result (option_map (λ read. list.old.items ++ read ∷ []) (happening_of (view value.now))) }
 {
-    let event = event(alloc, value)?;
-    list.push(event)?;
+    let happening = what_happens(alloc, value)?;
+    list.push(happening)?;
     Ok(())
 }
 
@@ -99,14 +99,14 @@ fn fault_at(flaw: Flaw, place: u64) -> ScheduleFault
     }
 }
 
-/// The events that the items are read as, or the place of the first that is read as none, counted from 1.
-pub fn read_events(alloc: Global, items: &[Value]) -> Result<Vec<Event>, ScheduleFault>
-    ensures read { IfOk result (λ list. events_or_fault (read_all event_of 1 (map view items.now)) ≡ Ok list.items) }
-    ensures fault { IfErr result (IsScheduleFault (events_or_fault (read_all event_of 1 (map view items.now)))) }
+/// What the items are read as, or the place of the first that is read as nothing that happens, counted from 1.
+pub fn read_happenings(alloc: Global, items: &[Value]) -> Result<Vec<Happening>, ScheduleFault>
+    ensures read { IfOk result (λ list. happenings_or_fault (read_all happening_of 1 (map view items.now)) ≡ Ok list.items) }
+    ensures fault { IfErr result (IsScheduleFault (happenings_or_fault (read_all happening_of 1 (map view items.now)))) }
 {
     let mut list = Vec::new(alloc);
     for (index, item) in items.iter().enumerate() {
-        if let Err(flaw) = push_event(alloc, item, &mut list) {
+        if let Err(flaw) = push_happening(alloc, item, &mut list) {
             return Err(fault_at(flaw, index as u64 + 1));
         }
     }

@@ -5,7 +5,7 @@ ghost use Rattle.json.specs.Json.{read_key, value as value_in_tokens};
 ghost use Rattle.json.specs.Token.{begin_array, begin_object};
 ghost use Rattle.json.specs.Value.{value_view};
 ghost use Rattle.csi_json.specs.Private.Plain.{event_in, IsPut, IsNextPut, SaysConfig, SaysEvents, SaysSchedule};
-ghost use Rattle.csi_json.specs.Public.Schedule.{text_schedule};
+ghost use Rattle.csi_json.specs.Private.EventSchedules.{text_schedule};
 ghost use Rattle.csi_types.specs.declared.event.Event.TheVariants as events;
 
 use crate::borrowed::{owned, plain_number};

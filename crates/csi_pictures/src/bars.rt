@@ -1,9 +1,10 @@
 //! What is attached, staged and published, as bars on the lanes of the plugins: each from the call that was carried out to the one
-//! that undid it, or to the loss of its node.
+//! that undid it, or to the loss of its node, at a recovery too.
 
-use crate::run::{Row, Run};
-use crate::scene::{lane_of, node_lane, succeeded};
+use crate::run::{Row, Run, What};
+use crate::scene::{is_given, lane_of, node_lane, succeeded};
 use crate::things::{Lasting, Thing, begun_by, is_same, undone_by};
+use csi_json::Recovery;
 use csi_types::{Body, VolumeId};
 use csi_world::{Event, Outcome, World};
 use std::alloc::{AllocError, Global};
@@ -189,20 +190,31 @@ fn carry_out(begun: &mut Begun, run: &Run<'_>, number: u64, row: usize) -> Resul
     }
 }
 
+// All bars of the nodes end whose stores a recovery doesn't have.
+fn leave_out(begun: &mut Begun, run: &Run<'_>, recovery: &Recovery, row: usize) {
+    for node in &run.nodes {
+        if !is_given(recovery, node) {
+            end_all(begun, node_lane(&run.nodes, node), row);
+        }
+    }
+}
+
 // What an event began, or ended.
 fn follow(begun: &mut Begun, run: &Run<'_>, row: &Row<'_>) -> Result<(), AllocError> {
-    match row.event {
-        Event::Deliver(number) => {
-            if succeeded(run.world, row.outcome) {
+    match (row.what, row.outcome) {
+        (What::Occurs(Event::Deliver(number)), outcome) => {
+            if succeeded(run.world, outcome) {
                 carry_out(begun, run, *number, row.number)
             } else {
                 Ok(())
             }
         }
-        Event::Lose(node) => {
-            if matches!(row.outcome, Outcome::Lost) {
-                end_all(begun, node_lane(&run.nodes, node), row.number);
-            }
+        (What::Occurs(Event::Lose(node)), Outcome::Lost) => {
+            end_all(begun, node_lane(&run.nodes, node), row.number);
+            Ok(())
+        }
+        (What::Recovers(recovery), Outcome::Recovered) => {
+            leave_out(begun, run, recovery, row.number);
             Ok(())
         }
         _ => Ok(()),

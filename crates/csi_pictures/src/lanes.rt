@@ -1,16 +1,18 @@
 //! The lanes, and their names. The band of a node is drawn where the node is there.
 
 use crate::escaping::Escaped;
-use crate::run::{Row, Run};
+use crate::run::{Row, Run, What};
+use crate::scene::is_given;
 use csi_types::NodeId;
 use csi_world::{Event, Outcome};
 use std::alloc::AllocError;
 
 // Whether the node of this id is there after an event.
 fn is_there_after(row: &Row<'_>, id: &NodeId, there: bool) -> bool {
-    match (row.event, row.outcome) {
-        (Event::Join(node), Outcome::Joined) => node == id || there,
-        (Event::Lose(node), Outcome::Lost) => node != id && there,
+    match (row.what, row.outcome) {
+        (What::Occurs(Event::Join(node)), Outcome::Joined) => node == id || there,
+        (What::Occurs(Event::Lose(node)), Outcome::Lost) => node != id && there,
+        (What::Recovers(recovery), Outcome::Recovered) => there && is_given(recovery, id),
         _ => there,
     }
 }

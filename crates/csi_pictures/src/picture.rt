@@ -7,8 +7,9 @@ use crate::rows::{put_label, put_mark, put_row_text};
 use crate::run::{Row, Run, run_of};
 use crate::scene::sent_number;
 use crate::ways::{Ways, put_passage, put_stub, ways_of};
-use csi_types::{Config, NoMemory};
-use csi_world::{Event, World, audit};
+use csi_json::Schedule;
+use csi_types::NoMemory;
+use csi_world::{World, audit};
 use std::alloc::{AllocError, Global};
 
 // Appends what is written of the frame that an event sent, and its way where nobody delivers it.
@@ -82,19 +83,15 @@ fn put_picture(
     write!(out, "</svg>\n")
 }
 
-/// The picture of this world, to which these events led from the configuration, as an SVG that needs nothing else: a row for each event,
+/// The picture of this world, to which this schedule led, in which nothing settles, as an SVG that needs nothing else: a row for each event,
 /// from the first down, and a lane for the orchestrator, the controller and each node that was ever there, which begins where the node joins
-/// and ends where it is lost. Each delivery is an arrow from where and when its frame was sent, each frame has its number and what it is
-/// beside the place where it was sent, and a frame that nobody delivers ends in the open. Texts are escaped, so that the picture is
-/// well-formed whatever they are. An `Err` is an allocation that was refused. What is drawn is tested, and not proved. This profile's own.
-pub fn draw(
-    alloc: Global,
-    config: &Config,
-    world: &World,
-    events: &[Event],
-) -> Result<Vec<u8>, NoMemory> {
+/// and ends where it is lost, at a recovery too. Each delivery is an arrow from where and when its frame was sent, each frame has its number
+/// and what it is beside the place where it was sent, and a frame that nobody delivers ends in the open. Texts are escaped, so that the
+/// picture is well-formed whatever they are. An `Err` is an allocation that was refused. What is drawn is tested, and not proved. This
+/// profile's own.
+pub fn draw(alloc: Global, schedule: &Schedule, world: &World) -> Result<Vec<u8>, NoMemory> {
     let found = audit(alloc, world)?;
-    let run = run_of(alloc, config, world, events)?;
+    let run = run_of(alloc, schedule, world)?;
     let mut text = String::new(alloc);
     put_picture(alloc, &mut text, &run, found.is_none())?;
     Ok(text.into_bytes())

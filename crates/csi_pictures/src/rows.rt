@@ -2,7 +2,7 @@
 //! that it sent.
 
 use crate::escaping::Escaped;
-use crate::run::Row;
+use crate::run::{Row, What};
 use crate::scene::{lane_of, node_lane};
 use csi_types::{Body, Frame, NodeId, Number, Reply, Status};
 use csi_world::{Event, Outcome, text_of};
@@ -41,23 +41,34 @@ fn name_in(event: &Event) -> &str {
     }
 }
 
-// An event, in words.
+// What happens, in words.
 #[derive(Drop)]
-struct Words<'a>(&'a Event);
+struct Words<'a>(What<'a>);
+
+// An event, in words.
+fn write_event<W: fmt::Write>(f: &mut fmt::Formatter<W>, event: &Event) -> fmt::Result {
+    let verb = verb_of(event);
+    let name = Escaped(name_in(event));
+    write!(f, "{verb}{name}")?;
+    match event {
+        Event::Deliver(number) => write!(f, "{number}"),
+        Event::Use { node, target, .. } | Event::Stop { node, target, .. } => {
+            let node = Escaped(node.as_str());
+            let target = Escaped(target.as_str());
+            write!(f, " at {node} {target}")
+        }
+        _ => Ok(()),
+    }
+}
 
 impl fmt::Display for Words<'_> {
     fn fmt<W: fmt::Write>(&self, f: &mut fmt::Formatter<W>) -> fmt::Result {
-        let verb = verb_of(self.0);
-        let name = Escaped(name_in(self.0));
-        write!(f, "{verb}{name}")?;
         match self.0 {
-            Event::Deliver(number) => write!(f, "{number}"),
-            Event::Use { node, target, .. } | Event::Stop { node, target, .. } => {
-                let node = Escaped(node.as_str());
-                let target = Escaped(target.as_str());
-                write!(f, " at {node} {target}")
+            What::Occurs(event) => write_event(f, event),
+            What::Recovers(recovery) => {
+                let session = recovery.session;
+                write!(f, "recover {session}")
             }
-            _ => Ok(()),
         }
     }
 }
@@ -71,6 +82,7 @@ fn is_wrong(outcome: Outcome) -> bool {
             | Outcome::NoSuchNode
             | Outcome::NodeThere
             | Outcome::NotSettled(_)
+            | Outcome::NotRecovered(_)
     )
 }
 
@@ -87,11 +99,11 @@ fn class_of(outcome: Outcome) -> &'static str {
 pub fn put_row_text(alloc: Global, out: &mut String, row: &Row<'_>) -> Result<(), AllocError> {
     let Row {
         number,
-        event,
+        what,
         outcome,
     } = *row;
     let class = class_of(outcome);
-    let told = Words(event);
+    let told = Words(what);
     let came = text_of(alloc, outcome)?;
     write!(
         out,
@@ -100,10 +112,7 @@ pub fn put_row_text(alloc: Global, out: &mut String, row: &Row<'_>) -> Result<()
 }
 
 // The shape of an event's mark.
-fn mark_of(event: &Event, outcome: Outcome) -> &'static str {
-    if is_wrong(outcome) {
-        return "cross";
-    }
+fn shape_of(event: &Event) -> &'static str {
     match event {
         Event::Timeout(_) | Event::Settle(_) => "clock",
         Event::RestartOrchestrator
@@ -117,8 +126,19 @@ fn mark_of(event: &Event, outcome: Outcome) -> &'static str {
     }
 }
 
+// The shape of a mark.
+fn mark_of(what: What<'_>, outcome: Outcome) -> &'static str {
+    if is_wrong(outcome) {
+        return "cross";
+    }
+    match what {
+        What::Occurs(event) => shape_of(event),
+        What::Recovers(_) => "restart",
+    }
+}
+
 // The lane of an event's mark.
-fn mark_lane(nodes: &[NodeId], event: &Event) -> usize {
+fn event_lane(nodes: &[NodeId], event: &Event) -> usize {
     match event {
         Event::RestartController | Event::RestartControllerWith(_) => 2,
         Event::RestartNode(node) | Event::Join(node) | Event::Lose(node) => node_lane(nodes, node),
@@ -126,18 +146,26 @@ fn mark_lane(nodes: &[NodeId], event: &Event) -> usize {
     }
 }
 
+// The lane of a mark.
+fn mark_lane(nodes: &[NodeId], what: What<'_>) -> usize {
+    match what {
+        What::Occurs(event) => event_lane(nodes, event),
+        What::Recovers(_) => 1,
+    }
+}
+
 /// Appends an event's mark; a delivery has none but its arrow.
 pub fn put_mark(out: &mut String, nodes: &[NodeId], row: &Row<'_>) -> Result<(), AllocError> {
     let Row {
         number,
-        event,
+        what,
         outcome,
     } = *row;
-    if matches!(event, Event::Deliver(_)) {
+    if matches!(what, What::Occurs(Event::Deliver(_))) {
         return Ok(());
     }
-    let shape = mark_of(event, outcome);
-    let lane = mark_lane(nodes, event);
+    let shape = mark_of(what, outcome);
+    let lane = mark_lane(nodes, what);
     write!(out, "<use href='#{shape}' x='{lane}045' y='{number}20'/>\n")
 }
 

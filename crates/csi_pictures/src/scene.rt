@@ -1,5 +1,6 @@
 //! Where things of a run stand in its picture, by lanes; and how a delivery is drawn.
 
+use csi_json::Recovery;
 use csi_types::{Body, Frame, NodeId, Party, Status};
 use csi_world::{Outcome, World};
 
@@ -11,6 +12,11 @@ pub fn node_lane(nodes: &[NodeId], id: &NodeId) -> usize {
         }
     }
     nodes.len() + 3
+}
+
+/// Whether a recovery has the store of the node of this id.
+pub fn is_given(recovery: &Recovery, id: &NodeId) -> bool {
+    recovery.given.as_slice().contains(id)
 }
 
 /// The lane of a plugin: 1 is the orchestrator's, 2 the controller's, and from 3 on are the nodes'.

@@ -1,7 +1,7 @@
 //! The ways of frames: an arrow from where and when each was sent to where and when it is delivered, or a stub where nobody delivers
 //! it.
 
-use crate::run::{Row, Run};
+use crate::run::{Row, Run, What};
 use crate::scene::{receiver, sender, sent_number, way_of};
 use csi_types::{Body, Frame};
 use csi_world::{Event, Outcome};
@@ -26,9 +26,9 @@ fn note_sent(rows: &mut [usize], row: &Row<'_>) {
 
 // The number of the frame that an event delivers, if it delivers one that was sent before.
 fn delivered(row: &Row<'_>) -> Option<u64> {
-    match (row.event, row.outcome) {
-        (Event::Deliver(_), Outcome::NoSuchFrame) => None,
-        (Event::Deliver(number), _) => Some(*number),
+    match (row.what, row.outcome) {
+        (_, Outcome::NoSuchFrame) => None,
+        (What::Occurs(Event::Deliver(number)), _) => Some(*number),
         _ => None,
     }
 }

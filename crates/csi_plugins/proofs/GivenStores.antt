@@ -4,7 +4,7 @@ use Rattle.csi_stores.specs.declared.keep.KeepFault.{KeepFault}
 use Rattle.csi_stores.specs.declared.keep.KeepFault.TheVariants.{Device, NoMemory, BadRecord, Full}
 use Rattle.csi_stores.specs.declared.part.Part.{Part}
 use Rattle.csi_stores.specs.Public.Part.{StoredPart, StoredChange, all_stored_in, part_change, put_all}
-use Rattle.csi_stores.specs.Public.Stores.{Store, Found, Parts, IsOnly, FindsSome, IsLoadFault}
+use Rattle.csi_stores.specs.Public.Stores.{Store, Parts, IsOnly, IsLoadFault}
 use Rattle.csi_records.specs.declared.fault.RecordStop.{RecordStop}
 use Rattle.csi_records.specs.declared.fault.RecordStop.TheVariants as stops
 use Rattle.csi_records.specs.Public.Refusing.{fault_of_stop}

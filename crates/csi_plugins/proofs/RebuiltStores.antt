@@ -1,9 +1,7 @@
 -- What was read, made and given where a controller's store is made of the orchestrator's.
-use Rattle.std.proofs.Common.{◌≡◌, ◌∙◌, ◌⊎◌, ◌≤◌, ◌+◌, refl, sym, ap, subst, inl, inr, ℕ, List, [], ◌∷◌, ◌++◌, length, map, min, codes, Err, arith}
-use Rattle.std.specs.List.{AllByRecursion, AllZip}
+use Rattle.std.proofs.Common.{◌≡◌, ◌∙◌, ◌≤◌, ◌+◌, refl, sym, ap, subst, inl, inr, ℕ, List, [], length, map, min, Err, arith}
 use Rattle.csi_lists.proofs.Each.{each-map}
 use Rattle.csi_lists.proofs.Maps.{map-twice}
-use Rattle.csi_controller.specs.Model.State.{ControllerState}
 use Rattle.csi_controller.specs.Public.Views.{RecordParts}
 use Rattle.csi_node.specs.Model.Record.{NodeParts}
 use Rattle.csi_orchestrator.specs.Public.Record.{RecordParts as OrchestratorRecord}
@@ -12,7 +10,7 @@ use Rattle.csi_recovery.specs.declared.fault.RecoveryFault.{RecoveryFault}
 use Rattle.csi_recovery.specs.declared.fault.RecoveryFault.TheVariants as recovery
 use Rattle.csi_recovery.specs.declared.rebuilding_fault.RebuildingFault.{RebuildingFault}
 use Rattle.csi_recovery.specs.declared.rebuilding_fault.RebuildingFault.TheVariants.{NumbersSpent, IdTaken, BadRow, NoMemory}
-use Rattle.csi_recovery.specs.Public.Judged.{IsKeptOf, AreGiven}
+use Rattle.csi_recovery.specs.Public.Judged.{AreGiven}
 use Rattle.csi_recovery.specs.Public.Rebuilding.{IsUnlike, IsRebuiltOf, IsRebuildingRefusal}
 use Rattle.csi_stores.specs.declared.keep.KeepFault.{KeepFault}
 use Rattle.csi_stores.specs.declared.keep.KeepFault.TheVariants as faults
@@ -22,7 +20,6 @@ use Rattle.csi_stores.specs.Public.Part.{StoredPart, StoredChange, all_stored_in
 use Rattle.csi_stores.specs.Public.Stores.{Store}
 use Rattle.csi_records.specs.declared.fault.RecordStop.{RecordStop}
 use Rattle.csi_records.specs.declared.fault.RecordStop.TheVariants as stops
-use Rattle.csi_records.specs.declared.version.RecordVersion.{RecordVersion}
 use Rattle.csi_records.specs.Public.Places.{ReadsStored}
 use Rattle.csi_records.specs.Public.Records.{controller_layout, IsRecordOf}
 use Rattle.csi_records.specs.Public.Spelling.{present}
@@ -36,9 +33,9 @@ use Rattle.csi_endings.specs.declared.ending.Ending.{Ending}
 use Rattle.csi_endings.specs.declared.ending.Ending.TheVariants as endings
 use Rattle.csi_plugins.specs.Public.Ending.{ending_of_store}
 use Rattle.csi_plugins.specs.Public.Recording.{Writer}
-use Rattle.csi_plugins.specs.Public.Recovering.{Fate, AreInTurn, IsUnchanged, IsRecordIn, NodeStore}
-use Rattle.csi_plugins.specs.Public.Recovering.Fate.{Stays, MayChange, Changes}
-use Rattle.csi_plugins.specs.Public.Rebuilding.{orchestrator_records, Sources, AreKept, AreSourcesRead, AreSourcesNotRead, AreUnlike, IsNoRebuilding, IsRebuildingEnd, IsRebuildingBegun}
+use Rattle.csi_plugins.specs.Public.Recovering.{Fate, IsUnchanged, IsRecordIn, NodeStore}
+use Rattle.csi_plugins.specs.Public.Recovering.Fate.{Stays, MayChange}
+use Rattle.csi_plugins.specs.Public.Rebuilding.{orchestrator_records, Sources, AreSourcesRead, AreSourcesNotRead, AreUnlike, IsNoRebuilding, IsRebuildingEnd, IsRebuildingBegun}
 use Rattle.csi_plugins.specs.Private.Recovering.{HasRead, ReadStore, HaveRead, IsNotRead, IsOneNotRead, IsNotNew, IsGiven, IsCommitEnd}
 use Rattle.csi_plugins.specs.Private.Rebuilding.{HasReadRecord, EndsRebuilding, EndsUnlike, IsRebuildingText, IsRebuildingReady}
 use Rattle.csi_plugins.proofs.RecoveredStores.{new-given}

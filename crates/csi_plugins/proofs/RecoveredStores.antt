@@ -1,5 +1,5 @@
 -- What was read, what was made of it, and what the stores were given, together.
-use Rattle.std.proofs.Common.{◌≡◌, ◌∙◌, ◌⊎◌, ◌<◌, ◌+◌, refl, sym, ap, ap₂, subst, inl, inr, ℕ, suc, List, [], ◌∷◌, ◌++◌, length, map, arith}
+use Rattle.std.proofs.Common.{◌≡◌, ◌∙◌, ◌<◌, ◌+◌, refl, sym, ap, subst, inl, inr, ℕ, suc, List, [], ◌∷◌, ◌++◌, length, map, arith}
 use Rattle.std.specs.List.{AllByRecursion, AllZip}
 use Rattle.std.proofs.lemmas.List.{append-nil, length-map}
 use Rattle.csi_lists.proofs.Each.{each-map}
@@ -12,7 +12,7 @@ use Rattle.csi_stores.specs.declared.keep.KeepFault.{KeepFault}
 use Rattle.csi_stores.specs.declared.keep.KeepFault.TheVariants as faults
 use Rattle.csi_stores.specs.Public.Content.{all_changed, AreRisingParts}
 use Rattle.csi_stores.specs.Public.Part.{StoredPart, StoredChange, put_all}
-use Rattle.csi_stores.specs.Public.Stores.{Store, Parts, IsOnly}
+use Rattle.csi_stores.specs.Public.Stores.{Store}
 use Rattle.csi_records.specs.Public.OrchestratorRecords.{kept_parts, keyed_from}
 use Rattle.csi_records.specs.Public.OrchestratorSpelling.{orchestrator_part}
 use Rattle.csi_records.specs.Public.Spelling.{present}

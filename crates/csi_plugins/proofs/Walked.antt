@@ -1,8 +1,7 @@
 -- A list that is gone through in place, element by element: what it was and is, told by one entry for each.
 use Rattle.std.proofs.Common.{◌≡◌, ◌∙◌, ◌<◌, ◌≤◌, ◌+◌, ◌-◌, ℕ, zero, suc, List, [], ◌∷◌, ◌++◌, length, map, take, drop, set, get_or, ap, ap₂, refl, sym, subst, arith}
-use Rattle.std.specs.Prelude.{slice_get, Some}
 use Rattle.std.specs.List.{AllByRecursion, AllZip}
-use Rattle.std.proofs.lemmas.List.{map_push, length-map, length-take-le, take_more, drop_more, take_all, drop_at, set-append_right, append_assoc, append-nil}
+use Rattle.std.proofs.lemmas.List.{map_push, length-map, length-take-le, take_more, drop_more, take_all, append_assoc, append-nil}
 use Rattle.csi_lists.proofs.Each.{each-append_one}
 
 module _ {K E : Type 0} (before after : E → K) (P : E → Type 0) (olds : List K) where

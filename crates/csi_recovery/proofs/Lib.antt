@@ -7,3 +7,6 @@ pub mod Free
 pub mod Sessions
 pub mod Judged
 pub mod RebuiltStates
+pub mod OpenedAgain
+pub mod WorldsJudged
+pub mod WorldsRecovered

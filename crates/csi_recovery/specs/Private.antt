@@ -1,3 +1,4 @@
 pub mod Worked
 pub mod Walks
 pub mod Rebuilding
+pub mod Worlds

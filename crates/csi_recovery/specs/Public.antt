@@ -1,3 +1,4 @@
 pub mod Judged
 pub mod Rebuilding
 pub mod Session
+pub mod Worlds

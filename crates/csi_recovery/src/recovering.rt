@@ -16,6 +16,42 @@ use csi_orchestrator::OrchestratorRecord;
 use csi_types::{NoMemory, NodeId};
 use std::alloc::Global;
 
+/// As `recovered`, but in the record stands this session, by which what is opened from it begins the one behind that.
+pub(crate) fn record_in(
+    alloc: Global,
+    nodes: Vec<NodeId>,
+    session: u64,
+    before: u64,
+    controller: &ControllerRecord,
+    given: &[NodeRecord],
+) -> Result<OrchestratorRecord, RecoveryFault>
+    ensures value { (state : ControllerState) (known : List GivenNode) → IsKeptOf controller.now state → AreGiven given.now known →
+        IfOk result (λ made. made ≡ record_of (recovered_parts nodes.items before state known)) }
+    ensures nodes { OnOk result (AreNodesFit nodes.items) }
+    ensures may { (state : ControllerState) (known : List GivenNode) → IsKeptOf controller.now state → AreGiven given.now known →
+        OnOk result (MayRecover nodes.items session state known) }
+    ensures rows { (state : ControllerState) (known : List GivenNode) → IsKeptOf controller.now state → AreGiven given.now known →
+        OnOk result (AllByRecursion (IsFreeRow nodes.items) (recovered_rows state known)) }
+    ensures refused { (state : ControllerState) (known : List GivenNode) → IsKeptOf controller.now state → AreGiven given.now known →
+        IfErr result (IsRecoveryRefusal nodes.items session state known) }
+    ensures accepted { (state : ControllerState) (known : List GivenNode) → IsKeptOf controller.now state → AreGiven given.now known →
+        AreNodesFit nodes.items → MayRecover nodes.items session state known → IfErr result (λ fault. fault ≡ Fault.NoMemory) }
+    ensures free { (state : ControllerState) (known : List GivenNode) → IsKeptOf controller.now state → AreGiven given.now known →
+        AreNodesFit nodes.items → AreFit session state known → AllByRecursion (IsFreeRow nodes.items) (recovered_rows state known) →
+        IfErr result (λ fault. fault ≡ Fault.NoMemory) }
+{
+    if let Some(fault) = first_unfit(session, controller, given) {
+        return Err(fault);
+    }
+    match rows(alloc, given, controller.rows()) {
+        Ok(rows) => match OrchestratorRecord::try_new(alloc, nodes, before, rows) {
+            Ok(made) => Ok(made),
+            Err(fault) => Err(fault_of(fault)),
+        },
+        Err(NoMemory) => Err(RecoveryFault::NoMemory),
+    }
+}
+
 /// The record of the orchestrator with this list of nodes and this session, made of the controller's record and of those of the nodes whose
 /// stores are given, after its own store was lost (this profile's own). A node without a record here is lost. Each live volume has a row, by
 /// rising id: it is made, with the capacity that it has and no limit, and has an entry for each of its holdings. At a node that is given it is
@@ -50,14 +86,5 @@ pub fn recovered(
         AreNodesFit nodes.items → AreFit session state known → AllByRecursion (IsFreeRow nodes.items) (recovered_rows state known) →
         IfErr result (λ fault. fault ≡ Fault.NoMemory) }
 {
-    if let Some(fault) = first_unfit(session, controller, given) {
-        return Err(fault);
-    }
-    match rows(alloc, given, controller.rows()) {
-        Ok(rows) => match OrchestratorRecord::try_new(alloc, nodes, session, rows) {
-            Ok(made) => Ok(made),
-            Err(fault) => Err(fault_of(fault)),
-        },
-        Err(NoMemory) => Err(RecoveryFault::NoMemory),
-    }
+    record_in(alloc, nodes, session, session, controller, given)
 }

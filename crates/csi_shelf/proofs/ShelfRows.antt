@@ -1,9 +1,6 @@
 -- Names of the small plugin's rows, where one changes, is put in or goes.
-use Rattle.std.proofs.Common.{◌≡◌, ℕ, ◌<◌, zero, suc, List, [], ◌∷◌, ◌++◌, map, length, set, Bool, true, false, cond, refl, sym, ◌∙◌, ap, subst, arith}
-use Rattle.std.specs.Prelude.{Option, Some, None, find, filter, nat_lt, ◌==◌}
-use Rattle.csi_lists.specs.Public.Places.{AtMostOne}
-use Rattle.csi_lists.proofs.Options.{some_is_not_none}
-use Rattle.csi_lists.proofs.Searches.{find-missed}
+use Rattle.std.proofs.Common.{◌≡◌, ℕ, List, map, true, refl, sym, ◌∙◌, ap, subst}
+use Rattle.std.specs.Prelude.{None, find}
 use Rattle.csi_lists.proofs.Maps.{map-same}
 use Rattle.csi_types.specs.declared.call.Kind.{Kind}
 use Rattle.csi_types.specs.declared.number.Number.{Number}

@@ -1,5 +1,5 @@
 -- A word is added to a command.
-use Rattle.std.proofs.Common.{◌≡◌, ◌∙◌, true, false, Bool}
+use Rattle.std.proofs.Common.{◌≡◌, ◌∙◌, false, Bool}
 use Rattle.std.specs.Prelude.{◌||◌}
 use Rattle.clap.specs.Words.{App, Rule, with_rule}
 

@@ -1,11 +1,9 @@
 -- All values of a word, by its rows.
-use Rattle.std.proofs.Common.{◌≡◌, ◌∙◌, ap, refl, sym, ℕ, List, [], map, Some, None}
+use Rattle.std.proofs.Common.{◌≡◌, ◌∙◌, ap, refl, sym, ℕ, List, [], Some, None}
 use Rattle.std.specs.Prelude.{Option, option_map, find, bytes_eq, unwrap_or}
-use Rattle.std.specs.Borrow.{Bor}
-use Rattle.clap.specs.Words.{Row, all_of, found_of, matched_of, raw_values, rows_of}
+use Rattle.clap.specs.Words.{Row, all_of, matched_of, raw_values, rows_of}
 use Rattle.clap.specs.Walk.{row_of}
 use Rattle.clap.proofs.WalkLemmas.{find_row}
-use Rattle.csi_words.specs.Public.Words.{texts_of}
 
 -- what the reader of all values says, the rows say
 pub all-rows : (f : _) (id : List ℕ) → option_map raw_values (matched_of f id) ≡ all_of id (rows_of f)

@@ -81,3 +81,4 @@ pub mod PlainReplies
 pub mod KeptCalls
 pub mod OpenCalls
 pub mod NeverStale
+pub mod RaisedNodes

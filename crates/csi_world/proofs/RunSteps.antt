@@ -26,12 +26,12 @@ use Rattle.csi_world.proofs.HeardReplies.{among-get}
 use Rattle.csi_world.proofs.PluginsReached.{answered-history}
 
 -- choices one after another
-all-append : (world : World) (xs ys : List Choice) → MayChooseAll world xs → MayChooseAll (chosen_all world xs) ys → MayChooseAll world (xs ++ ys)
+pub all-append : (world : World) (xs ys : List Choice) → MayChooseAll world xs → MayChooseAll (chosen_all world xs) ys → MayChooseAll world (xs ++ ys)
 all-append world [] ys f g = g
 all-append world (x ∷ xs) ys f g = (f.0, all-append (chosen world x) xs ys f.1 g)
 
 -- the world after choices and then others is the one to which the others lead from the first ones' world
-chosen-append : (world : World) (xs ys : List Choice) → chosen_all world (xs ++ ys) ≡ chosen_all (chosen_all world xs) ys
+pub chosen-append : (world : World) (xs ys : List Choice) → chosen_all world (xs ++ ys) ≡ chosen_all (chosen_all world xs) ys
 chosen-append world [] ys = refl
 chosen-append world (x ∷ xs) ys = chosen-append (chosen world x) xs ys
 

@@ -6,3 +6,4 @@ pub mod Laws
 pub mod Worked
 pub mod WorkedRebuilt
 pub mod Telling
+pub mod Recovering

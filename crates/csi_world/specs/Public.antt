@@ -9,4 +9,5 @@ pub mod Recovered
 pub mod Rebuilt
 pub mod Recovery
 pub mod Outcomes
+pub mod Given
 pub mod Stale

@@ -17,8 +17,8 @@ use crate::system::System;
 use csi_node::Node;
 use csi_types::{Config, NoMemory, NodeId, NodeList};
 
-// Whether the node is one of these.
-fn is_listed(nodes: &[NodeId], id: &NodeId) -> bool
+/// Whether the node is one of these.
+pub(crate) fn is_listed(nodes: &[NodeId], id: &NodeId) -> bool
     ensures { result ≡ list_any (same_text id.now) nodes.now }
 {
     nodes.iter().any(|node| *id == *node)

@@ -1,9 +1,24 @@
 //! What comes of an event, and its text.
 ghost use Rattle.std.specs.Prelude.{◌≡◌, IfOk, string_bytes};
-ghost use Rattle.csi_world.specs.Public.Outcomes.{refused_text as text_of_refusal, outcome_text};
+ghost use Rattle.csi_world.specs.Public.Outcomes.{refused_text as text_of_refusal, unrecovered_text, outcome_text};
 
 use csi_orchestrator::OrchFault;
 use std::alloc::{AllocError, Global};
+
+/// Why no orchestrator was made of what a world's plugins keep; `RecoveryFault` of `csi_recovery` says of which node or volume.
+#[derive(Clone, Copy, Debug, PartialEq, Eq)]
+pub enum RecoveryRefusal {
+    /// The session isn't later than that of the last call, and all that the plugins heard of.
+    NotLater,
+    /// Two stores are of one node.
+    SameNode,
+    /// A node's store disagrees with the controller's.
+    Disagrees,
+    /// There are more than 64 nodes, or one stands there twice.
+    BadNodes,
+    /// A volume can't have a row: it is staged at a node that isn't listed, or staged and published nowhere at two nodes.
+    BadRow,
+}
 
 /// What came of an event.
 #[derive(Clone, Copy, Debug, PartialEq, Eq)]
@@ -36,6 +51,10 @@ pub enum Outcome {
     Settled(u64),
     /// It isn't, after so many.
     NotSettled(u64),
+    /// An orchestrator was made of what the plugins keep.
+    Recovered,
+    /// None was, and nothing changed.
+    NotRecovered(RecoveryRefusal),
 }
 
 fn refused_text(alloc: Global, fault: OrchFault) -> Result<String, AllocError>
@@ -46,6 +65,18 @@ fn refused_text(alloc: Global, fault: OrchFault) -> Result<String, AllocError>
     let mut text = format!(in alloc; "refused {number} ")?;
     text.push_str(name)?;
     Ok(text)
+}
+
+fn unrecovered(why: RecoveryRefusal) -> &'static str
+    ensures { result.now ≡ unrecovered_text why }
+{
+    match why {
+        RecoveryRefusal::NotLater => "not recovered NotLater",
+        RecoveryRefusal::SameNode => "not recovered SameNode",
+        RecoveryRefusal::Disagrees => "not recovered Disagrees",
+        RecoveryRefusal::BadNodes => "not recovered BadNodes",
+        RecoveryRefusal::BadRow => "not recovered BadRow",
+    }
 }
 
 /// The text of an outcome, as a report has it: printable ASCII with no mark of XML's. This profile's own.
@@ -68,5 +99,7 @@ pub fn text_of(alloc: Global, outcome: Outcome) -> Result<String, AllocError>
         Outcome::Lost => String::from_str(alloc, "lost"),
         Outcome::Settled(count) => format!(in alloc; "settled {count}"),
         Outcome::NotSettled(count) => format!(in alloc; "not settled {count}"),
+        Outcome::Recovered => String::from_str(alloc, "recovered"),
+        Outcome::NotRecovered(why) => String::from_str(alloc, unrecovered(why)),
     }
 }

@@ -72,7 +72,9 @@ fn are_events(events: &[Event]) -> bool {
 // Whether it is read so, where there is memory for it.
 fn is_read(alloc: Global) -> bool {
     match read_schedule(alloc, SCHEDULE) {
-        Ok((config, events)) => is_config(&config) && are_events(&events),
+        Ok(schedule) => {
+            is_config(&schedule.config) && are_events(&schedule.events) && schedule.on.is_empty()
+        }
         Err(_) => false,
     }
 }

@@ -12,7 +12,7 @@ use Rattle.csi_types.specs.Model.Config.{Config}
 use Rattle.csi_json.specs.Public.Configs.{config_of}
 use Rattle.csi_types.specs.declared.event.Event.{Event}
 use Rattle.csi_json.specs.Public.Events.{event_of}
-use Rattle.csi_json.specs.Public.Schedule.{Schedule, schedule_read}
+use Rattle.csi_json.specs.Private.EventSchedules.{Schedule, schedule_read}
 
 -- the event that a value is
 abbrev pub event_in : Value Global → Option Event

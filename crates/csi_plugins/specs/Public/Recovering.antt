@@ -1,11 +1,10 @@
 -- What becomes of the stores of a recovery, and why nothing is recovered of them. This profile's own.
-use Rattle.std.specs.Prelude.{◌≡◌, ◌⊎◌, ℕ, ◌+◌, List, [], ◌∷◌, ◌++◌, map, codes, ◌&&◌, not, Bool, true, false, Option, Some, None, is_some, slice_get}
+use Rattle.std.specs.Prelude.{◌≡◌, ◌⊎◌, ℕ, ◌+◌, List, [], ◌∷◌, ◌++◌, map, codes, ◌&&◌, not, Bool, true, false, Some, None, is_some, slice_get}
 use Rattle.std.specs.List.{AllByRecursion, AllZip, list_any}
 use Rattle.std.specs.Io.KnownBytes.{Appends}
 use Rattle.csi_types.specs.Model.Config.{Config}
 use Rattle.csi_types.specs.Model.Same.{same_text}
 use Rattle.csi_controller.specs.Model.State.{ControllerState}
-use Rattle.csi_controller.specs.Model.Core.{ControllerParts}
 use Rattle.csi_controller.specs.Public.Views.{RecordParts}
 use Rattle.csi_node.specs.Model.Record.{NodeParts}
 use Rattle.csi_orchestrator.specs.Public.Record.{RecordParts as OrchestratorRecord}
@@ -15,7 +14,7 @@ use Rattle.csi_recovery.specs.Public.Judged.{IsKeptOf, AreGiven, record_of, IsRe
 use Rattle.csi_recovery.specs.Public.Session.{recovery_session}
 use Rattle.csi_stores.specs.Public.Counting.{HasRisen}
 use Rattle.csi_stores.specs.Public.Part.{StoredPart}
-use Rattle.csi_stores.specs.Public.Stores.{Store, Found, Parts, Foreign, IsOnly, FindsSome, FindsEither}
+use Rattle.csi_stores.specs.Public.Stores.{Store, Found, Parts, IsOnly, FindsSome, FindsEither}
 use Rattle.csi_stores.specs.Public.Writing.{WritesFront}
 use Rattle.csi_records.specs.declared.fault.RecordStop.TheVariants.{BadRecord}
 use Rattle.csi_records.specs.declared.version.RecordVersion.{RecordVersion}

@@ -1,12 +1,11 @@
 -- The laws of the small plugin's table.
-use Rattle.std.proofs.Common.{◌≡◌, ℕ, ◌<◌, zero, suc, List, [], ◌∷◌, length, Bool, true, false, cond, refl, sym, ap, arith}
-use Rattle.std.specs.Prelude.{Some, None, find, slice_get, ◌==◌, ◌||◌, ◌-◌, ◌^◌, nat_le, codes}
+use Rattle.std.proofs.Common.{◌≡◌, ℕ, ◌<◌, List, length, Bool, true, false, cond, refl, sym, ap, arith}
+use Rattle.std.specs.Prelude.{None, find, ◌==◌, ◌||◌, ◌-◌, ◌^◌, nat_le, codes}
 use Rattle.std.specs.List.{AllByRecursion}
 use Rattle.std.proofs.lemmas.Bool.{leb-false, ne_eqb}
 use Rattle.std.proofs.lemmas.List.Elements.{recursion_from_All}
-use Rattle.csi_lists.specs.Public.Places.{AtMostOne, IsAt}
+use Rattle.csi_lists.specs.Public.Places.{AtMostOne}
 use Rattle.csi_lists.proofs.Members.{each_of}
-use Rattle.csi_lists.proofs.Options.{some_is_not_none}
 use Rattle.csi_lists.proofs.Places.{AtMostOne-set}
 use Rattle.csi_lists.proofs.Searches.{find-none}
 use Rattle.csi_types.specs.declared.call.Kind.{Kind}

@@ -7,7 +7,8 @@ use Rattle.csi_types.specs.Model.Same.{same_text}
 use Rattle.csi_node.specs.Model.Record.{NodeParts}
 use Rattle.csi_node.specs.Model.Record.{Shows as NodeShows}
 use Rattle.csi_node.specs.Model.State.{NodeState}
-use Rattle.csi_world.specs.Model.Simulated.{WorldParts}
+use Rattle.csi_world.specs.Model.Simulated.{WorldParts, ShowsWorld}
+use Rattle.csi_world.specs.Model.World.{World}
 
 -- the frame of a number, from 1
 abbrev pub numbered : List Frame → ℕ → Option Frame
@@ -23,6 +24,11 @@ has_same_id (node ∷ others) = list_any (λ other. same_text node.id other.id) 
 pub record IsSoundWorld (shown : WorldParts) : Type 0 where
   pub apart : has_same_id shown.nodes ≡ false
   pub fit : config_fault (shown.config).greatest (shown.config).nodes ≡ None
+
+-- there is a world that it shows, as of each that events lead to
+pub record IsOfWorld (shown : WorldParts) : Type 0 where
+  pub world : World
+  pub shows : ShowsWorld shown world
 
 -- what is shown of a node is this state, if there is one
 abbrev pub ShowsNode : Option NodeParts → Option NodeState → Type 0

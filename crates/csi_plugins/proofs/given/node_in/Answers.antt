@@ -1,5 +1,5 @@
 -- What was read of the parts that the store gave, or why nothing was.
-use Rattle.std.proofs.Common.{◌∙◌, sym, ap, subst, map, List}
+use Rattle.std.proofs.Common.{◌∙◌, sym, ap, subst, List}
 use Rattle.csi_stores.specs.declared.keep.KeepFault.{KeepFault}
 use Rattle.csi_stores.specs.declared.part.Part.{Part}
 use Rattle.csi_stores.specs.Public.Part.{all_stored_in}

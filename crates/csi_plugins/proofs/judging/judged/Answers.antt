@@ -1,5 +1,5 @@
 -- What is made of the records in the session of the recovery, or why nothing is.
-use Rattle.std.proofs.Common.{◌≡◌, ◌∙◌, ap, sym, subst, List, ℕ, Some}
+use Rattle.std.proofs.Common.{◌∙◌, ap, sym, subst, List, ℕ, Some}
 use Rattle.csi_orchestrator.specs.Public.Record.{RecordParts}
 use Rattle.csi_world.specs.Public.Recovered.{recovered, MayRecover}
 use Rattle.csi_recovery.specs.Public.Judged.{record_of}

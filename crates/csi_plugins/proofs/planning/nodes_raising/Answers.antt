@@ -1,10 +1,10 @@
 -- One record more, with what renews its store.
-use Rattle.std.proofs.Common.{◌≡◌, ◌∙◌, ◌∷◌, [], ◌<◌, ap, subst, sym, List, length, map, arith, rules, refl}
+use Rattle.std.proofs.Common.{◌≡◌, ◌∙◌, ◌∷◌, [], ap, subst, sym, List, length, map, arith, rules, refl}
 use Rattle.std.proofs.lemmas.List.{length-map, map_push, nil_from_length}
 use Rattle.csi_node.specs.Model.Record.{NodeParts}
 use Rattle.csi_stores.specs.Public.Part.{StoredChange}
-use Rattle.csi_plugins.specs.Private.Recovering.{changes_of, AreMade}
-use Rattle.csi_plugins.proofs.MadePlans.{AreMadeSome, made-none, made-next, made-all, left-many}
+use Rattle.csi_plugins.specs.Private.Recovering.{changes_of}
+use Rattle.csi_plugins.proofs.MadePlans.{AreMadeSome, made-next, made-all, left-many}
 use Rattle.csi_plugins.proofs.planning.nodes_raising.Goals as goal
 
 pub loop-record-init : goal.loop-record-init

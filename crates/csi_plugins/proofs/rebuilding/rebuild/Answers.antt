@@ -1,7 +1,7 @@
 -- What was read, made and given, and how it is told.
-use Rattle.std.proofs.Common.{◌≡◌, sym, ap, subst, inl, inr, refl, map, List, ℕ, string_bytes}
+use Rattle.std.proofs.Common.{sym, ap, subst, inr, refl, map, string_bytes}
 use Rattle.std.specs.Io.KnownBytes.{Appends}
-use Rattle.csi_stores.specs.Public.Part.{StoredChange, part_change}
+use Rattle.csi_stores.specs.Public.Part.{part_change}
 use Rattle.csi_stores.specs.Public.Writing.{WritesFront}
 use Rattle.csi_endings.specs.declared.ending.Ending.{Ending}
 use Rattle.csi_endings.specs.declared.ending.Ending.TheVariants as endings

@@ -1,5 +1,5 @@
 -- Each store in turn.
-use Rattle.std.proofs.Common.{◌≡◌, ◌∙◌, ap, subst, map, List}
+use Rattle.std.proofs.Common.{◌≡◌, ap, subst, map, List}
 use Rattle.csi_stores.specs.Public.Part.{StoredChange, part_change}
 use Rattle.csi_plugins.specs.Public.Recovering.{AreInTurn, AllChange}
 use Rattle.csi_plugins.specs.Public.Recovering.Fate.{Stays, MayChange, Changes}

@@ -1,5 +1,5 @@
 -- Stores that weren't called stay; and where all were read, the records are refused.
-use Rattle.std.proofs.Common.{inr, map, List}
+use Rattle.std.proofs.Common.{inr, map}
 use Rattle.std.proofs.lemmas.Result.{IfErr-weaker}
 use Rattle.csi_plugins.specs.Private.Recovering.{changes_of}
 use Rattle.csi_plugins.proofs.GivenStores.{unchanged-same}

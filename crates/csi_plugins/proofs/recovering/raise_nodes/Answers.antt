@@ -1,7 +1,7 @@
 -- One store more gets its changes, or refuses them.
-use Rattle.std.proofs.Common.{◌≡◌, ◌∙◌, ◌<◌, ap, sym, subst, get_or, length, map, List, arith}
+use Rattle.std.proofs.Common.{◌≡◌, ◌∙◌, ◌<◌, ap, sym, subst, get_or, length, map, arith}
 use Rattle.std.proofs.lemmas.List.{get_or-map, length-map}
-use Rattle.csi_stores.specs.Public.Part.{StoredChange, part_change}
+use Rattle.csi_stores.specs.Public.Part.{part_change}
 use Rattle.csi_plugins.specs.Public.Recovering.Fate.{MayChange, Changes}
 use Rattle.csi_plugins.specs.Private.Recovering.{changes_of, IsGiven}
 use Rattle.csi_plugins.proofs.CarryingOut.{given-done, given-refused, changed-none, changed-next, changed-stop, changed-all}

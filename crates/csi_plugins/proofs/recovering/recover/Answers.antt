@@ -1,13 +1,13 @@
 -- What was read, made and given, and how it is told.
-use Rattle.std.proofs.Common.{◌≡◌, ◌∙◌, ◌++◌, ap, sym, subst, inl, inr, refl, map, length, List, ℕ, codes, string_bytes}
+use Rattle.std.proofs.Common.{◌∙◌, sym, subst, inr, refl, map, length, string_bytes}
 use Rattle.std.specs.Io.KnownBytes.{Appends}
 use Rattle.std.proofs.lemmas.List.{length-map}
 use Rattle.csi_stores.specs.Public.Writing.{WritesFront}
 use Rattle.csi_endings.specs.declared.ending.Ending.{Ending}
 use Rattle.csi_endings.specs.declared.ending.Ending.TheVariants as endings
 use Rattle.csi_plugins.specs.Public.Recording.{written_by}
-use Rattle.csi_plugins.specs.Public.Recovering.{Fate, AllChange, AreInTurn, IsRecoveryEnd, Recovers}
-use Rattle.csi_plugins.specs.Private.Recovering.{changes_of, IsToldSo}
+use Rattle.csi_plugins.specs.Public.Recovering.{AllChange, AreInTurn, Recovers}
+use Rattle.csi_plugins.specs.Private.Recovering.{changes_of}
 use Rattle.csi_plugins.proofs.RecoveredStores.{begun, ends-refused, plan-many}
 use Rattle.csi_plugins.proofs.recovering.recover.Goals as goal
 

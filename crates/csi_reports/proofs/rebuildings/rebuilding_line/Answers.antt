@@ -1,8 +1,7 @@
 -- The text is that of the tokens, with the names in place.
-use Rattle.std.proofs.Common.{◌≡◌, ℕ, List, map, ap, ◌∙◌, sym, subst, length}
+use Rattle.std.proofs.Common.{ℕ, List, map, ap, ◌∙◌, sym, subst, length}
 use Rattle.std.specs.Borrow.{Bor}
 use Rattle.serde_json.specs.Written.{compact_text}
-use Rattle.csi_controller.specs.declared.row.ControllerRow.{ControllerRow}
 use Rattle.csi_controller.specs.Public.Core.{AreSoundRows}
 use Rattle.csi_orchestrator.specs.Model.Shown.{RowShown}
 use Rattle.csi_reports.specs.Public.ByName.{name_place, creating_names}

@@ -1,5 +1,5 @@
 -- A node that is given, or there, adds nothing; another one is added at the end.
-use Rattle.std.proofs.Common.{◌≡◌, ◌∙◌, ap, sym, List, ℕ, map, true, false, ◌++◌, ◌∷◌, [], rules}
+use Rattle.std.proofs.Common.{◌≡◌, ◌∙◌, ap, sym, map, true, false, ◌++◌, ◌∷◌, [], rules}
 use Rattle.csi_node.specs.Model.Record.{NodeParts}
 use Rattle.csi_reports.specs.Public.Recoveries.{has_node, once}
 use Rattle.csi_reports.proofs.LostNodes.{any-of, node-given, node-there, node-new}

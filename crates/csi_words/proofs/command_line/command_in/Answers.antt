@@ -1,5 +1,5 @@
 -- What the readers of the subcommand say is what was entered.
-use Rattle.std.proofs.Common.{◌∙◌, sym, ap, rules}
+use Rattle.std.proofs.Common.{◌∙◌, sym, ap}
 use Rattle.std.proofs.lemmas.Result.{IfOk-weaker}
 use Rattle.csi_words.specs.Public.Words.{command_entered}
 use Rattle.csi_words.proofs.Entered.{paired}

@@ -1,8 +1,8 @@
 -- One word after another is added.
-use Rattle.std.proofs.Common.{◌≡◌, ◌∙◌, ap, codes, rules, true, false, Bool, Some}
+use Rattle.std.proofs.Common.{◌≡◌, ◌∙◌, ap, codes, rules, true, false, Some}
 use Rattle.std.proofs.lemmas.Result.{IfOk-weaker}
 use Rattle.clap.specs.declared.builder.action.ArgAction.TheVariants.{Append}
-use Rattle.clap.specs.Words.{App, Rule, app_of, new_rule, rule_of, with_rule, with_subcommand}
+use Rattle.clap.specs.Words.{App, app_of, new_rule, rule_of, with_subcommand}
 use Rattle.csi_words.proofs.AddedWords.{still_local, added}
 use Rattle.csi_words.proofs.command_line.recover_command.Goals as goal
 

@@ -1,5 +1,5 @@
 -- What the reader of all values says, the rows say.
-use Rattle.std.proofs.Common.{◌≡◌, ◌∙◌, ap, sym, map, ℕ, List, []}
+use Rattle.std.proofs.Common.{◌∙◌, ap, sym, map, ℕ, List}
 use Rattle.std.specs.Prelude.{option_map}
 use Rattle.std.specs.Borrow.{Bor}
 use Rattle.std.proofs.lemmas.Result.{IfOk-weaker}

@@ -1,6 +1,5 @@
-use Rattle.std.proofs.Common.{refl, subst, sym, List}
+use Rattle.std.proofs.Common.{refl}
 use Rattle.csi_types.specs.Model.Same.{same_text}
-use Rattle.csi_lists.proofs.Maps.{map-same}
 use Rattle.csi_lists.proofs.Places.{AtMostOne-filter}
 use Rattle.csi_fence.specs.Public.Rows.{stays_in}
 use Rattle.csi_shelf.specs.declared.shelf.ShelfRow.{ShelfRow}

@@ -17,7 +17,7 @@ use Rattle.csi_recovery.specs.Private.Walks.{passed_on, row_from}
 use Rattle.csi_recovery.proofs.Free.{AreSoundGiven, free-restorable, free-rows, rows-free, rows-few, rows-apart, refused-not_free}
 use Rattle.csi_recovery.proofs.Judged.{fit-clash, may-fit, fit-may, passed-refused}
 use Rattle.csi_recovery.proofs.Told.{rows-told}
-use Rattle.csi_recovery.proofs.recovering.recovered.Goals as goal
+use Rattle.csi_recovery.proofs.recovering.record_in.Goals as goal
 
 pub returns-in-Some-clause-accepted : goal.returns-in-Some-clause-accepted
 returns-in-Some-clause-accepted c = λ state known is are fit may.
@@ -35,7 +35,7 @@ returns-in-Ok-try_new-clause-value c = λ state known is are.
     let given = c.args.given.now in
     let read : map row_shown c.in-Ok.rows.items ≡ recovered_rows state known =
     c.in-Ok.ensures ∙ ap (λ (l : List ControllerRow). map (row_from given) (filter (λ (row : ControllerRow). row.live) l)) c.rows.ensures.value ∙ rows-told c.args.controller.now state given known c.rows.ensures.sound.rising is are in
-    c.in-Ok-try_new.ensures.value ∙ ap (λ (rows : List RowShown). let made : RecordParts = record { nodes = c.args.nodes.items; session = c.args.session; rows = rows } in made) read
+    c.in-Ok-try_new.ensures.value ∙ ap (λ (rows : List RowShown). let made : RecordParts = record { nodes = c.args.nodes.items; session = c.args.before; rows = rows } in made) read
 
 pub returns-in-Ok-try_new-clause-may : goal.returns-in-Ok-try_new-clause-may
 returns-in-Ok-try_new-clause-may c = λ state known is are.

@@ -3,8 +3,8 @@ use Rattle.std.proofs.Common.{◌≡◌, map, take}
 use Rattle.std.specs.Prelude.{Ok}
 use Rattle.serde_json.specs.View.{view}
 use Rattle.csi_json.specs.Public.Json.{read_all}
-use Rattle.csi_json.specs.Public.Events.{event_of}
-use Rattle.csi_json.proofs.lists.read_events.Given as goal
+use Rattle.csi_json.specs.Public.Happenings.{happening_of}
+use Rattle.csi_json.proofs.lists.read_happenings.Given as goal
 
 abbrev pub invariant-loop-index : goal.invariant-loop-index
-invariant-loop-index l = read_all event_of 1 (map view (take l.index l.items)) ≡ Ok l.list.items
+invariant-loop-index l = read_all happening_of 1 (map view (take l.index l.items)) ≡ Ok l.list.items
