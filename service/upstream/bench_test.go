@@ -4,7 +4,6 @@ import (
 	"bufio"
 	"context"
 	"fmt"
-	"math"
 	"net"
 	"os"
 	"os/exec"
@@ -19,6 +18,7 @@ import (
 	"golang.org/x/sys/unix"
 	"google.golang.org/grpc"
 
+	"tufayon/service/measuring"
 	"tufayon/service/passing"
 	"tufayon/service/upstream/upstreamtest"
 )
@@ -112,15 +112,6 @@ func startUpstream(b *testing.B, folder, work string) *exec.Cmd {
 	}
 }
 
-// processors is how long a process has had the processors.
-func processors(b *testing.B, process int) time.Duration {
-	var used unix.Timespec
-	if err := unix.ClockGettime(int32(^process<<3|2), &used); err != nil { // as clock_getcpuclockid(3) has it
-		b.Fatal(err)
-	}
-	return time.Duration(used.Nano())
-}
-
 // A turn is what came of one: how long calls took, how many there were in a second, and how long clients, upstream and driver had the processors for one.
 type turn struct {
 	took    []float64 // in milliseconds, in order
@@ -169,11 +160,11 @@ func turnAt(b *testing.B, client *grpc.ClientConn, clients int, processes [3]int
 	time.Sleep(time.Until(counts))
 	var before, behind [3]time.Duration
 	for at, it := range processes {
-		before[at] = processors(b, it)
+		before[at] = measuring.Processors(b, it)
 	}
 	time.Sleep(time.Until(end))
 	for at, it := range processes {
-		behind[at] = processors(b, it)
+		behind[at] = measuring.Processors(b, it)
 	}
 	all.Wait()
 	sort.Float64s(came.took)
@@ -182,21 +173,6 @@ func turnAt(b *testing.B, client *grpc.ClientConn, clients int, processes [3]int
 		came.microes[at] = float64(behind[at]-before[at]) / 1e3 / float64(len(came.took))
 	}
 	return came
-}
-
-// median is of values that are put in order.
-func median(all []float64) float64 {
-	sort.Float64s(all)
-	return (all[(len(all)-1)/2] + all[len(all)/2]) / 2
-}
-
-// errorOf is the standard error of the median of these: half of how far those are apart that are as many places above it and below it as a coin that is thrown
-// for each is above or below its mean.
-func errorOf(all []float64) float64 {
-	sort.Float64s(all)
-	places, middle := math.Sqrt(float64(len(all)))/2, float64(len(all)-1)/2
-	above, below := math.Min(math.Ceil(middle+places), float64(len(all)-1)), math.Max(math.Floor(middle-places), 0)
-	return (all[int(above)] - all[int(below)]) / 2
 }
 
 func benchmarkAttach(b *testing.B, work string, clients int) {
@@ -235,7 +211,7 @@ func benchmarkAttach(b *testing.B, work string, clients int) {
 			if len(came.took) == 0 {
 				b.Fatal("no call ended in a turn")
 			}
-			middles[which] = median(came.took)
+			middles[which] = measuring.Median(came.took)
 			took[which], persec[which] = append(took[which], middles[which]), append(persec[which], came.persec)
 			for of, micro := range came.microes {
 				microes[which][of] = append(microes[which][of], micro)
@@ -244,16 +220,16 @@ func benchmarkAttach(b *testing.B, work string, clients int) {
 		times = append(times, middles[1]/middles[0])
 	}
 	b.ReportMetric(0, "ns/op") // which would be that of pairs of turns
-	b.ReportMetric(median(took[0]), "alone-ms")
-	b.ReportMetric(median(took[1]), "through-ms")
-	b.ReportMetric(median(times), "times")
-	b.ReportMetric(errorOf(times), "times-error")
-	b.ReportMetric(median(persec[0]), "alone-calls/s")
-	b.ReportMetric(median(persec[1]), "through-calls/s")
+	b.ReportMetric(measuring.Median(took[0]), "alone-ms")
+	b.ReportMetric(measuring.Median(took[1]), "through-ms")
+	b.ReportMetric(measuring.Median(times), "times")
+	b.ReportMetric(measuring.ErrorOf(times), "times-error")
+	b.ReportMetric(measuring.Median(persec[0]), "alone-calls/s")
+	b.ReportMetric(measuring.Median(persec[1]), "through-calls/s")
 	for which, of := range []string{"alone", "through"} {
 		for at, its := range []string{"client", "upstream", "driver"} {
 			if which == 1 || at < 2 {
-				b.ReportMetric(median(microes[which][at]), of+"-"+its+"-us")
+				b.ReportMetric(measuring.Median(microes[which][at]), of+"-"+its+"-us")
 			}
 		}
 	}

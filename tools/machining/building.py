@@ -96,7 +96,7 @@ class Building:
         before = Edit(edit).apply(self.tree) if edit else {}
         try:
             names = "tufayon-orchestrator tufayon-controller tufayon-node tufayonctl"
-            self.go(f'cd "$1/go/src/tufayon/service"; for it in {names}; do in_turn go build -ldflags="-s -w" -o "$2/$it" "./cmd/$it"; done', self.folder, built)
+            self.go(f'cd "$1/go/src/tufayon/service"; for it in {names}; do in_turn quickly build -ldflags="-s -w" -o "$2/$it" "./cmd/$it"; done', self.folder, built)
         finally:
             put_back(before)
         if not os.path.exists(self.wire):
