@@ -35,13 +35,18 @@ service_linked() {
     for it in "$@"; do go list -deps -f "$each" "./cmd/$it" | sed '/^$/d' > "$folder/$it"; done
 }
 
-# `go build`, `vet` or `test`, which compile quickly: no call is inlined, nothing is written for debuggers, and Go's commands, and what they run, collect
-# garbage seldom. With -race Go's own packages are compiled so too; else they are as Debian compiled them.
-quickly() {
-    local command="$1" flags=("-gcflags=all=-l -dwarf=false")
+# `go build`, `vet` or `test`, with the race detector: for programs and tests alike, so that each package is compiled once. It compiles quickly: no call is
+# inlined, nothing is written for debuggers, and Go's commands, and what they run, collect garbage seldom.
+detecting() {
+    local command="$1"
     shift
-    [ "${1-}" = -race ] || flags+=(-gcflags=std=)
-    GOGC=400 go "$command" "${flags[@]}" "$@"
+    GOGC=400 go "$command" -race "-gcflags=all=-l -dwarf=false" "$@"
+}
+
+# Has a program that detecting built, where it finds a race, write that to a file in the folder $1, and end with status 66.
+detected_in() {
+    mkdir -p "$1"
+    export GORACE="log_path=$1/race halt_on_error=1 atexit_sleep_ms=0"
 }
 
 # Runs a command that builds, one at a time of those that share a cache: who comes second finds what the first has built.
