@@ -5,21 +5,18 @@ import (
 	"encoding/json"
 	"fmt"
 	"io"
-	"math"
 	"net"
 	"net/http"
 	"os"
 	"os/exec"
 	"path/filepath"
 	"runtime"
-	"sort"
 	"strconv"
 	"sync"
 	"testing"
 	"time"
 
 	"go.uber.org/zap"
-	"golang.org/x/sys/unix"
 	"google.golang.org/grpc"
 
 	"tufayon/service/api"
@@ -29,6 +26,7 @@ import (
 	"tufayon/service/daemon"
 	"tufayon/service/history"
 	"tufayon/service/host"
+	"tufayon/service/measuring"
 	"tufayon/service/metrics"
 	"tufayon/service/secure"
 	"tufayon/service/store"
@@ -80,7 +78,7 @@ func benchmarkWatched(b *testing.B, callers int) {
 		if asked > 0 {
 			return pairs >= asked
 		}
-		return pairs >= most || pairs >= fewest && errorOf(ratios) < exact && errorOf(spent) < exact
+		return pairs >= most || pairs >= fewest && measuring.ErrorOf(ratios) < exact && measuring.ErrorOf(spent) < exact
 	}
 	for pair := 0; !isEnough(pair); pair++ {
 		var turns [2]turn
@@ -95,28 +93,14 @@ func benchmarkWatched(b *testing.B, callers int) {
 		unwatched, took = append(unwatched, turns[0].seconds), append(took, turns[0].spent)
 		b.Logf("%.2f and %.2f ms, %.0f and %.0f us", 1e3*turns[0].seconds, 1e3*turns[1].seconds, 1e6*turns[0].spent, 1e6*turns[1].spent)
 	}
-	b.ReportMetric(median(ratios), "ratio")
-	b.ReportMetric(errorOf(ratios), "ratio-error")
-	b.ReportMetric(median(spent), "processor-ratio")
-	b.ReportMetric(errorOf(spent), "processor-error")
-	b.ReportMetric(1e3*median(unwatched), "ms")
-	b.ReportMetric(1e6*median(took), "processor-us")
+	b.ReportMetric(measuring.Median(ratios), "ratio")
+	b.ReportMetric(measuring.ErrorOf(ratios), "ratio-error")
+	b.ReportMetric(measuring.Median(spent), "processor-ratio")
+	b.ReportMetric(measuring.ErrorOf(spent), "processor-error")
+	b.ReportMetric(1e3*measuring.Median(unwatched), "ms")
+	b.ReportMetric(1e6*measuring.Median(took), "processor-us")
 	b.ReportMetric(float64(len(ratios)), "pairs")
 	b.ReportMetric(0, "ns/op") // which would be that of pairs of turns
-}
-
-func median(all []float64) float64 {
-	sort.Float64s(all)
-	return (all[(len(all)-1)/2] + all[len(all)/2]) / 2
-}
-
-// errorOf is the standard error of the median of these: half of how far those are apart that are as many places above it and below it as a coin that is thrown
-// for each is above or below its mean.
-func errorOf(all []float64) float64 {
-	sort.Float64s(all)
-	places, middle := math.Sqrt(float64(len(all)))/2, float64(len(all)-1)/2
-	above, below := math.Min(math.Ceil(middle+places), float64(len(all)-1)), math.Max(math.Floor(middle-places), 0)
-	return (all[int(above)] - all[int(below)]) / 2
 }
 
 // A served is a service that is a process of its own, with a volume for each caller.
@@ -190,15 +174,6 @@ func (it *served) follow(b *testing.B) {
 	}()
 }
 
-// processors is how long its process has had the processors.
-func (it *served) processors(b *testing.B) time.Duration {
-	var used unix.Timespec
-	if err := unix.ClockGettime(int32(^it.running.Process.Pid<<3|2), &used); err != nil { // as clock_getcpuclockid(3) has it
-		b.Fatal(err)
-	}
-	return time.Duration(used.Nano())
-}
-
 // A turn is what came of one: how long a use with its stop took in the mean, of those that ended in what is counted, in seconds by the clock and of the
 // service's processors.
 type turn struct{ seconds, spent float64 }
@@ -237,9 +212,9 @@ func (it *served) turn(b *testing.B, callers int) turn {
 		}(fmt.Sprint("v", caller))
 	}
 	time.Sleep(time.Until(counts))
-	spent := it.processors(b)
+	spent := measuring.Processors(b, it.running.Process.Pid)
 	time.Sleep(time.Until(end))
-	spent = it.processors(b) - spent
+	spent = measuring.Processors(b, it.running.Process.Pid) - spent
 	group.Wait()
 	time.Sleep(turnRests)
 	all := time.Duration(0)

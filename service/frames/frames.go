@@ -52,6 +52,7 @@ const (
 	MaxStatus       = 16
 	maxBody         = 1280
 	lengthBytes     = 4
+	usualBytes      = 128 // most frames have fewer
 )
 
 // OfNode says whether calls of this kind are for a node plugin, and not for the controller.

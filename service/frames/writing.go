@@ -138,7 +138,7 @@ func framed(to *writer) ([]byte, error) {
 
 // Encode writes the call as a frame. It fails with ErrLimit where a field is outside its limits.
 func (call Call) Encode() ([]byte, error) {
-	to := &writer{bytes: make([]byte, lengthBytes)}
+	to := &writer{bytes: make([]byte, lengthBytes, usualBytes)}
 	kind := call.Kind()
 	to.byte(call.version())
 	to.byte(uint8(kind))

@@ -19,7 +19,11 @@ import (
 // as a whole and of each volume, and comes to what the orchestrator says.
 func TestDrawn(t *testing.T) {
 	path := program(t)
-	for seed := int64(1); seed <= 8; seed++ {
+	seeds := int64(8)
+	if testing.Short() {
+		seeds = 3 // a history of each size
+	}
+	for seed := int64(1); seed <= seeds; seed++ {
 		t.Run(fmt.Sprint("seed ", seed), func(t *testing.T) {
 			made := newRun(t, []int{Usual, 40, 150}[seed%3], "n1", "n2", "n3")
 			random := rand.New(rand.NewSource(seed))

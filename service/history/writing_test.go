@@ -74,7 +74,11 @@ func readBack(t *testing.T, line []byte) (entry Entry) {
 func TestEntries(t *testing.T) {
 	it := drawing{rand.New(rand.NewSource(1))}
 	whats := []string{reply, none, timeout, session, lose, "create", "use"}
-	for at := 0; at < 2000; at++ {
+	count := 2000
+	if testing.Short() {
+		count = 500
+	}
+	for at := 0; at < count; at++ {
 		entry := Entry{
 			Time: it.Int63(), Session: it.Uint64(), What: whats[it.Intn(len(whats))], Name: it.text(), Outcome: it.text(), Call: it.call(),
 			Status: uint8(it.Intn(3)), Volume: uint64(it.Intn(2)), Detail: it.text(), Sent: it.call(), IsCut: it.Intn(2) == 0,

@@ -9,7 +9,7 @@ import (
 
 	"google.golang.org/grpc"
 	"google.golang.org/grpc/codes"
-	"google.golang.org/grpc/stats"
+	"google.golang.org/grpc/peer"
 	"google.golang.org/grpc/status"
 )
 
@@ -18,9 +18,6 @@ import (
 type Limits struct {
 	Connections int
 	Streams     uint32
-
-	mutex sync.Mutex
-	open  int
 }
 
 // New gives the limits of a driver: more than the sidecars of a platform have.
@@ -31,64 +28,47 @@ var errConnections = status.Error(codes.ResourceExhausted, "connections")
 
 // Options are the server's.
 func (limits *Limits) Options() []grpc.ServerOption {
-	return []grpc.ServerOption{grpc.MaxConcurrentStreams(limits.Streams), grpc.StatsHandler(&counting{limits})}
+	return []grpc.ServerOption{grpc.MaxConcurrentStreams(limits.Streams)}
 }
 
-// above is the key of a connection's context, where it is above the limit.
-type above struct{}
+// above is the address of who is at the other end of a connection above the limit: what gRPC tells of a connection with each call, without a handler of
+// statistics, for which it would copy each call's metadata.
+type above struct{ net.Addr }
+
+// judge refuses a call of a connection above the limit.
+func judge(ctx context.Context) error {
+	if from, known := peer.FromContext(ctx); known {
+		if _, is := from.Addr.(above); is {
+			return errConnections
+		}
+	}
+	return nil
+}
 
 // Intercept refuses the calls of a connection above the limit.
 func (limits *Limits) Intercept(ctx context.Context, request any, _ *grpc.UnaryServerInfo, handle grpc.UnaryHandler) (any, error) {
-	if ctx.Value(above{}) != nil {
-		return nil, errConnections
+	if err := judge(ctx); err != nil {
+		return nil, err
 	}
 	return handle(ctx, request)
 }
 
 // InterceptStream does the same with streams.
 func (limits *Limits) InterceptStream(server any, stream grpc.ServerStream, _ *grpc.StreamServerInfo, handle grpc.StreamHandler) error {
-	if stream.Context().Value(above{}) != nil {
-		return errConnections
+	if err := judge(stream.Context()); err != nil {
+		return err
 	}
 	return handle(server, stream)
 }
 
-// counting counts connections.
-type counting struct {
-	limits *Limits
-}
-
-func (counting *counting) TagConn(ctx context.Context, _ *stats.ConnTagInfo) context.Context {
-	limits := counting.limits
-	limits.mutex.Lock()
-	defer limits.mutex.Unlock()
-	if limits.open++; limits.open > limits.Connections {
-		return context.WithValue(ctx, above{}, true)
-	}
-	return ctx
-}
-
-func (counting *counting) HandleConn(_ context.Context, event stats.ConnStats) {
-	if _, ended := event.(*stats.ConnEnd); ended {
-		counting.limits.mutex.Lock()
-		counting.limits.open--
-		counting.limits.mutex.Unlock()
-	}
-}
-
-func (counting *counting) TagRPC(ctx context.Context, _ *stats.RPCTagInfo) context.Context {
-	return ctx
-}
-func (counting *counting) HandleRPC(context.Context, stats.RPCStats) {}
-
-// Listen gives a listener that closes each connection beyond twice the limit at once.
+// Listen gives a listener whose connections are counted: it marks those above the limit, and closes each beyond twice that at once.
 func (limits *Limits) Listen(inner net.Listener) net.Listener {
-	return &listener{Listener: inner, most: 2 * limits.Connections}
+	return &listener{Listener: inner, limit: limits.Connections}
 }
 
 type listener struct {
 	net.Listener
-	most  int
+	limit int
 	mutex sync.Mutex
 	open  int
 }
@@ -100,13 +80,14 @@ func (listener *listener) Accept() (net.Conn, error) {
 			return nil, err
 		}
 		listener.mutex.Lock()
-		isAbove := listener.open == listener.most
-		if !isAbove {
+		isServed := listener.open < 2*listener.limit
+		if isServed {
 			listener.open++
 		}
+		isAbove := listener.open > listener.limit
 		listener.mutex.Unlock()
-		if !isAbove {
-			return &connection{Conn: accepted, of: listener}, nil
+		if isServed {
+			return &connection{Conn: accepted, of: listener, isAbove: isAbove}, nil
 		}
 		accepted.Close()
 	}
@@ -114,8 +95,17 @@ func (listener *listener) Accept() (net.Conn, error) {
 
 type connection struct {
 	net.Conn
-	of   *listener
-	once sync.Once
+	of      *listener
+	isAbove bool
+	once    sync.Once
+}
+
+// RemoteAddr is who is at the other end, above the limit as such.
+func (connection *connection) RemoteAddr() net.Addr {
+	if connection.isAbove {
+		return above{connection.Conn.RemoteAddr()}
+	}
+	return connection.Conn.RemoteAddr()
 }
 
 // SyscallConn is the connection's own: by it the kernel says who is at the other end.

@@ -5,33 +5,61 @@ import (
 	"net"
 	"path/filepath"
 	"testing"
+	"time"
 
+	"google.golang.org/grpc"
 	"google.golang.org/grpc/codes"
-	"google.golang.org/grpc/stats"
+	"google.golang.org/grpc/health"
+	"google.golang.org/grpc/health/grpc_health_v1"
 	"google.golang.org/grpc/status"
 )
 
 // Calls of a connection above the limit are refused, until another one ends.
 func TestConnections(t *testing.T) {
-	limits := &Limits{Connections: 2}
-	counts := &counting{limits}
-	call := func(ctx context.Context) codes.Code {
-		_, err := limits.Intercept(ctx, nil, nil, func(context.Context, any) (any, error) { return nil, nil })
-		return status.Code(err)
+	limits := &Limits{Connections: 2, Streams: 8}
+	path := filepath.Join(t.TempDir(), "s")
+	inner, err := net.Listen("unix", path)
+	if err != nil {
+		t.Fatal(err)
 	}
-	var connections []context.Context
-	for at := 0; at < 3; at++ {
-		connections = append(connections, counts.TagConn(context.Background(), &stats.ConnTagInfo{}))
+	server := grpc.NewServer(append(limits.Options(), grpc.UnaryInterceptor(limits.Intercept), grpc.StreamInterceptor(limits.InterceptStream))...)
+	grpc_health_v1.RegisterHealthServer(server, health.NewServer())
+	go server.Serve(limits.Listen(inner))
+	defer server.Stop()
+	connect := func() (*grpc.ClientConn, codes.Code) {
+		connection, err := grpc.Dial("unix://"+path, grpc.WithInsecure())
+		if err != nil {
+			t.Fatal(err)
+		}
+		t.Cleanup(func() { connection.Close() })
+		client := grpc_health_v1.NewHealthClient(connection)
+		_, err = client.Check(context.Background(), &grpc_health_v1.HealthCheckRequest{})
+		stream, failed := client.Watch(context.Background(), &grpc_health_v1.HealthCheckRequest{})
+		if failed == nil {
+			_, failed = stream.Recv()
+		}
+		if status.Code(failed) != status.Code(err) {
+			t.Errorf("a call: %v, and a stream: %v", err, failed)
+		}
+		return connection, status.Code(err)
 	}
-	for at, want := range []codes.Code{codes.OK, codes.OK, codes.ResourceExhausted} {
-		if code := call(connections[at]); code != want {
-			t.Errorf("a call of connection %d: %v", at, code)
+	first, _ := connect()
+	for _, want := range []codes.Code{codes.OK, codes.ResourceExhausted, codes.ResourceExhausted} {
+		if it, code := connect(); code != want {
+			t.Errorf("a call: %v, not %v", code, want)
+		} else if code != codes.OK {
+			it.Close()
 		}
 	}
-	counts.HandleConn(connections[0], &stats.ConnEnd{})
-	counts.HandleConn(connections[2], &stats.ConnEnd{})
-	if code := call(counts.TagConn(context.Background(), &stats.ConnTagInfo{})); code != codes.OK {
-		t.Errorf("a call of the next one: %v", code)
+	first.Close()
+	for end := time.Now().Add(time.Minute); ; {
+		it, code := connect()
+		if code == codes.OK {
+			return
+		}
+		if it.Close(); time.Now().After(end) {
+			t.Fatalf("a call of the next one: %v", code)
+		}
 	}
 }
 

@@ -58,9 +58,7 @@ func Options(handle grpc.StreamHandler) []grpc.ServerOption {
 }
 
 // callOptions are a client's.
-func callOptions(more ...grpc.CallOption) []grpc.CallOption {
-	return append(more, grpc.ForceCodec(Codec{}), grpc.MaxCallRecvMsgSize(MostBytes), grpc.MaxCallSendMsgSize(MostBytes))
-}
+var callOptions = []grpc.CallOption{grpc.ForceCodec(Codec{}), grpc.MaxCallRecvMsgSize(MostBytes), grpc.MaxCallSendMsgSize(MostBytes)}
 
 // Onward is a context with the metadata that came with a call, which nobody changes, for the call that goes on.
 func Onward(ctx, came context.Context) context.Context {
@@ -105,8 +103,8 @@ func (failure *Failure) GRPCStatus() *status.Status { return status.Convert(fail
 // Call makes a call with one request and one response. An error of it is a Failure.
 func Call(ctx context.Context, behind *grpc.ClientConn, method string, request []byte, more ...grpc.CallOption) (Response, error) {
 	var response Response
-	options := append(callOptions(more...), grpc.Header(&response.Header), grpc.Trailer(&response.Trailer))
-	err := behind.Invoke(ctx, method, &request, &response.Message, options...)
+	options := append(callOptions[:len(callOptions):len(callOptions)], grpc.Header(&response.Header), grpc.Trailer(&response.Trailer))
+	err := behind.Invoke(ctx, method, &request, &response.Message, append(options, more...)...)
 	if err != nil {
 		return Response{}, &Failure{Err: err, Header: response.Header, Trailer: response.Trailer}
 	}
@@ -117,7 +115,7 @@ func Call(ctx context.Context, behind *grpc.ClientConn, method string, request [
 func Through(behind *grpc.ClientConn, method string, stream grpc.ServerStream) error {
 	ctx, end := context.WithCancel(stream.Context())
 	defer end()
-	onward, err := behind.NewStream(Onward(ctx, ctx), &grpc.StreamDesc{ServerStreams: true, ClientStreams: true}, method, callOptions()...)
+	onward, err := behind.NewStream(Onward(ctx, ctx), &grpc.StreamDesc{ServerStreams: true, ClientStreams: true}, method, callOptions...)
 	if err != nil {
 		return err
 	}

@@ -6,7 +6,9 @@ import (
 	"io"
 	"net"
 	"path/filepath"
+	"runtime"
 	"strings"
+	"sync"
 	"testing"
 	"time"
 
@@ -117,4 +119,45 @@ func TestCodec(t *testing.T) {
 	if err := (passing.Codec{}).Unmarshal(nil, io.EOF); err == nil {
 		t.Error("an error is passed on")
 	}
+}
+
+// Calls are handled by goroutines that are kept, up to a number; those end with what keeps them, and others with their calls.
+func TestKept(t *testing.T) {
+	before := runtime.NumGoroutine()
+	kept := &passing.Kept{}
+	var under sync.WaitGroup
+	handle := kept.Handle(func(server any, _ grpc.ServerStream) error {
+		under.Done()
+		under.Wait() // all are under way at once
+		return server.(error)
+	})
+	calls := func(count int) {
+		under.Add(count)
+		var all sync.WaitGroup
+		for at := 0; at < count; at++ {
+			all.Add(1)
+			go func(gives error) {
+				defer all.Done()
+				if err := handle(gives, nil); err != gives {
+					t.Errorf("%v, not %v", err, gives)
+				}
+			}(fmt.Errorf("call %d", at))
+		}
+		all.Wait()
+	}
+	rests := func(most int) {
+		t.Helper()
+		for end := time.Now().Add(time.Minute); runtime.NumGoroutine() > before+most; time.Sleep(time.Millisecond) {
+			if time.Now().After(end) {
+				t.Fatalf("%d goroutines, not %d", runtime.NumGoroutine()-before, most)
+			}
+		}
+	}
+	calls(300)
+	rests(128)
+	calls(100)
+	rests(128)
+	kept.Close()
+	calls(10)
+	rests(0)
 }

@@ -64,10 +64,12 @@ type Maker struct {
 // held is what the library made. The thread that made it makes all its calls: who has one is locked to its thread (runtime.LockOSThread).
 type held struct {
 	handle *C.tufayon_plugin
-	room   []byte // for the value of a change, which grows
+	room   []byte // for a reply, or the value of a change, for which it grows
 }
 
-func nothing() held { return held{handle: new(C.tufayon_plugin), room: make([]byte, 512)} }
+func nothing() held {
+	return held{handle: new(C.tufayon_plugin), room: make([]byte, C.TUFAYON_REPLY_ROOM)}
+}
 
 // A Plugin is a controller or a node. One thread makes all its calls.
 type Plugin struct {
@@ -118,13 +120,12 @@ func (maker Maker) Check() error {
 
 // Answer answers one whole frame. The reply has no bytes where the frame is a reply, or another plugin's.
 func (plugin *Plugin) Answer(frame []byte) ([]byte, error) {
-	reply := make([]byte, C.TUFAYON_REPLY_ROOM)
 	var used, written C.size_t
-	ending := C.tufayon_answer(plugin.handle, in(frame), C.size_t(len(frame)), &used, in(reply), C.size_t(len(reply)), &written)
+	ending := C.tufayon_answer(plugin.handle, in(frame), C.size_t(len(frame)), &used, in(plugin.room), C.size_t(len(plugin.room)), &written)
 	if ending != C.TUFAYON_DONE {
 		return nil, Ending(ending)
 	}
-	return reply[:written], nil
+	return append([]byte(nil), plugin.room[:written]...), nil
 }
 
 // Changes are those of the last answered frame, of the last that an orchestrator was asked, or of making what there is.

@@ -45,7 +45,7 @@ func readLast(value []byte) (read last, is bool) {
 // isLast says whether a call of a number that the volume's last call has asks the same as that one, as far as that is known: a driver of before kept
 // nothing. One that the fence let through is the last one. Of a CreateVolume that was refused no volume is known.
 func (core *Core) isLast(group *group, volume uint64, number frames.Number, request Request, isFresh bool) bool {
-	if volume == 0 {
+	if volume == 0 || !core.isByMetadata() { // by arrival no number comes twice
 		return true
 	}
 	frame, _ := frames.Call{Number: number, Node: request.Node, Body: request.Body}.Encode() // the plugin has answered it
@@ -58,10 +58,10 @@ func (core *Core) isLast(group *group, volume uint64, number frames.Number, requ
 	return !isKnown || its.number != number || its == this
 }
 
-// keepLast keeps the last call of a volume beside the record, with its commit, in a store that has sides. By arrival no number comes twice.
+// keepLast keeps the last call of a volume beside the record, with its commit, in a store that has sides.
 func (core *Core) keepLast(group *group, volume uint64, this last) {
 	core.last[volume] = this
-	if _, hasSides := core.config.Store.(store.Sided); hasSides && core.isByMetadata() {
+	if _, hasSides := core.config.Store.(store.Sided); hasSides {
 		delete(core.late, volume)
 		group.addSide(store.Side{Name: lastName(volume), Value: this.value(), First: true})
 	}

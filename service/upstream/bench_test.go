@@ -4,7 +4,6 @@ import (
 	"bufio"
 	"context"
 	"fmt"
-	"math"
 	"net"
 	"os"
 	"os/exec"
@@ -19,6 +18,7 @@ import (
 	"golang.org/x/sys/unix"
 	"google.golang.org/grpc"
 
+	"tufayon/service/measuring"
 	"tufayon/service/passing"
 	"tufayon/service/upstream/upstreamtest"
 )
@@ -46,12 +46,12 @@ func sleeps(long time.Duration) func(testing.TB) func() {
 	return func(testing.TB) func() { return func() { time.Sleep(long) } }
 }
 
-// BenchmarkAttach has volumes attached and detached by clients at once, in turn at an upstream alone and through a driver before it, whose store is on the
-// disk of TMPDIR, with a log that has grown to its size. Clients, driver and upstream are three processes. A turn is of 0.4 s, of which the last 0.3 s are
-// measured. It tells the median time of a call at the upstream alone and through the driver, and calls a second; `times`, the median over pairs of turns of
-// how many times the one is the other, with its standard error; and how long each process has the processors for a call through the driver, and those of
-// clients and upstream for one at the upstream alone. There are 12 pairs of turns, 0.8 seconds each, or as many as the environment's
-// TUFAYON_BENCH_PAIRS says.
+// BenchmarkAttach has volumes attached and detached by clients at once, in turn at an upstream alone, through a driver before it, whose store is on the
+// disk of TMPDIR, with a log that has grown to its size, and through the same driver by a name that it doesn't know, so that the call passes unread. Clients,
+// driver and upstream are three processes. A turn is of 0.4 s, of which the last 0.3 s are measured. Of each it tells the median time of a call, calls a
+// second, and how long each process has the processors for a call; `times` is the median, over rounds of three turns, of how many times the time through the
+// driver is that at the upstream alone, with its standard error, and `unread-times` that of a call that passes unread. There are 12 rounds, or as many as the
+// environment's TUFAYON_BENCH_ROUNDS says.
 func BenchmarkAttach(b *testing.B) {
 	for _, work := range []string{"nothing", "sync", "1ms", "2ms", "5ms", "10ms"} {
 		for _, clients := range []int{1, 16, 64} {
@@ -61,7 +61,7 @@ func BenchmarkAttach(b *testing.B) {
 }
 
 const (
-	pairs     = 12
+	rounds    = 12
 	turnLasts = 400 * time.Millisecond
 	isCounted = 300 * time.Millisecond // of a turn, its end
 
@@ -73,7 +73,7 @@ const (
 	// The environment's folder for the driver's profile, if it names one.
 	profilesKey = "TUFAYON_BENCH_PROFILES"
 
-	pairsKey = "TUFAYON_BENCH_PAIRS" // the environment's number of pairs of turns
+	roundsKey = "TUFAYON_BENCH_ROUNDS" // the environment's number of rounds
 )
 
 // TestUpstream is no test: it is the upstream of BenchmarkAttach, until its standard input ends.
@@ -112,15 +112,6 @@ func startUpstream(b *testing.B, folder, work string) *exec.Cmd {
 	}
 }
 
-// processors is how long a process has had the processors.
-func processors(b *testing.B, process int) time.Duration {
-	var used unix.Timespec
-	if err := unix.ClockGettime(int32(^process<<3|2), &used); err != nil { // as clock_getcpuclockid(3) has it
-		b.Fatal(err)
-	}
-	return time.Duration(used.Nano())
-}
-
 // A turn is what came of one: how long calls took, how many there were in a second, and how long clients, upstream and driver had the processors for one.
 type turn struct {
 	took    []float64 // in milliseconds, in order
@@ -138,8 +129,15 @@ func call(b *testing.B, client *grpc.ClientConn, method string, message proto.Me
 	}
 }
 
-// turnAt has clients attach and detach a volume each, again and again.
-func turnAt(b *testing.B, client *grpc.ClientConn, clients int, processes [3]int) (came turn) {
+// A way is how calls come to the upstream: at whose socket, and what stands before their names.
+type way struct {
+	name   string
+	client *grpc.ClientConn
+	before string
+}
+
+// turn has clients attach and detach a volume each, again and again.
+func (way way) turn(b *testing.B, clients int, processes [3]int) (came turn) {
 	var mutex sync.Mutex
 	var all sync.WaitGroup
 	end := time.Now().Add(turnLasts)
@@ -151,9 +149,9 @@ func turnAt(b *testing.B, client *grpc.ClientConn, clients int, processes [3]int
 			var took []float64
 			for isAttach, began := true, time.Now(); began.Before(end) || !isAttach; isAttach = !isAttach {
 				if isAttach {
-					call(b, client, attachCall, attaches(id, "n1", writer))
+					call(b, way.client, way.before+attachCall, attaches(id, "n1", writer))
 				} else {
-					call(b, client, detachCall, detaches(id, "n1"))
+					call(b, way.client, way.before+detachCall, detaches(id, "n1"))
 				}
 				now := time.Now()
 				if now.After(counts) && now.Before(end) {
@@ -169,11 +167,11 @@ func turnAt(b *testing.B, client *grpc.ClientConn, clients int, processes [3]int
 	time.Sleep(time.Until(counts))
 	var before, behind [3]time.Duration
 	for at, it := range processes {
-		before[at] = processors(b, it)
+		before[at] = measuring.Processors(b, it)
 	}
 	time.Sleep(time.Until(end))
 	for at, it := range processes {
-		behind[at] = processors(b, it)
+		behind[at] = measuring.Processors(b, it)
 	}
 	all.Wait()
 	sort.Float64s(came.took)
@@ -184,77 +182,64 @@ func turnAt(b *testing.B, client *grpc.ClientConn, clients int, processes [3]int
 	return came
 }
 
-// median is of values that are put in order.
-func median(all []float64) float64 {
-	sort.Float64s(all)
-	return (all[(len(all)-1)/2] + all[len(all)/2]) / 2
-}
-
-// errorOf is the standard error of the median of these: half of how far those are apart that are as many places above it and below it as a coin that is thrown
-// for each is above or below its mean.
-func errorOf(all []float64) float64 {
-	sort.Float64s(all)
-	places, middle := math.Sqrt(float64(len(all)))/2, float64(len(all)-1)/2
-	above, below := math.Min(math.Ceil(middle+places), float64(len(all)-1)), math.Max(math.Floor(middle-places), 0)
-	return (all[int(above)] - all[int(below)]) / 2
-}
-
 func benchmarkAttach(b *testing.B, work string, clients int) {
 	box := &box{TB: b, folder: b.TempDir(), config: noNodes, end: func() {}}
 	behind := startUpstream(b, box.folder, work)
 	driver := box.run()
 	b.Cleanup(func() { driver.Process.Signal(unix.SIGTERM); driver.Wait() })
-	at := [2]*grpc.ClientConn{
-		upstreamtest.Dial(b, filepath.Join(box.folder, "upstream.sock")), upstreamtest.Dial(b, filepath.Join(box.folder, "d", "csi.sock")),
-	}
+	through := upstreamtest.Dial(b, filepath.Join(box.folder, "d", "csi.sock"))
+	alone := upstreamtest.Dial(b, filepath.Join(box.folder, "upstream.sock"))
+	ways := [3]way{{"alone", alone, ""}, {"through", through, ""}, {"unread", through, upstreamtest.Unread}}
 	var made sync.WaitGroup
 	for volume := 0; volume < clients; volume++ {
-		call(b, at[1], createCall, creates(fmt.Sprint("v", volume)))
+		call(b, through, createCall, creates(fmt.Sprint("v", volume)))
 		made.Add(1)
 		go func(id string) {
 			defer made.Done()
 			for count := 0; count < grown/2; count += clients {
-				call(b, at[1], attachCall, attaches(id, "n1", writer))
-				call(b, at[1], detachCall, detaches(id, "n1"))
+				call(b, through, attachCall, attaches(id, "n1", writer))
+				call(b, through, detachCall, detaches(id, "n1"))
 			}
 		}(fmt.Sprint("v", volume))
 	}
 	made.Wait()
 	processes := [3]int{os.Getpid(), behind.Process.Pid, driver.Process.Pid}
-	count, err := strconv.Atoi(os.Getenv(pairsKey))
+	count, err := strconv.Atoi(os.Getenv(roundsKey))
 	if err != nil {
-		count = pairs
+		count = rounds
 	}
-	var times []float64
-	var took, persec [2][]float64
-	var microes [2][3][]float64
-	for pair := 0; pair < count; pair++ {
-		var middles [2]float64
-		for _, which := range [][]int{{0, 1}, {1, 0}}[pair%2] {
-			came := turnAt(b, at[which], clients, processes)
+	var took, persec, times [3][]float64
+	var microes [3][3][]float64
+	for round := 0; round < count; round++ {
+		var middles [3]float64
+		for turn := range ways {
+			which := (round + turn) % 3
+			came := ways[which].turn(b, clients, processes)
 			if len(came.took) == 0 {
 				b.Fatal("no call ended in a turn")
 			}
-			middles[which] = median(came.took)
+			middles[which] = measuring.Median(came.took)
 			took[which], persec[which] = append(took[which], middles[which]), append(persec[which], came.persec)
 			for of, micro := range came.microes {
 				microes[which][of] = append(microes[which][of], micro)
 			}
 		}
-		times = append(times, middles[1]/middles[0])
+		for which, middle := range middles {
+			times[which] = append(times[which], middle/middles[0])
+		}
 	}
-	b.ReportMetric(0, "ns/op") // which would be that of pairs of turns
-	b.ReportMetric(median(took[0]), "alone-ms")
-	b.ReportMetric(median(took[1]), "through-ms")
-	b.ReportMetric(median(times), "times")
-	b.ReportMetric(errorOf(times), "times-error")
-	b.ReportMetric(median(persec[0]), "alone-calls/s")
-	b.ReportMetric(median(persec[1]), "through-calls/s")
-	for which, of := range []string{"alone", "through"} {
+	b.ReportMetric(0, "ns/op") // which would be that of rounds
+	for which, way := range ways {
+		b.ReportMetric(measuring.Median(took[which]), way.name+"-ms")
+		b.ReportMetric(measuring.Median(persec[which]), way.name+"-calls/s")
 		for at, its := range []string{"client", "upstream", "driver"} {
-			if which == 1 || at < 2 {
-				b.ReportMetric(median(microes[which][at]), of+"-"+its+"-us")
+			if which > 0 || at < 2 {
+				b.ReportMetric(measuring.Median(microes[which][at]), way.name+"-"+its+"-us")
 			}
 		}
 	}
+	b.ReportMetric(measuring.Median(times[1]), "times")
+	b.ReportMetric(measuring.ErrorOf(times[1]), "times-error")
+	b.ReportMetric(measuring.Median(times[2]), "unread-times")
+	b.ReportMetric(measuring.ErrorOf(times[2]), "unread-times-error")
 }

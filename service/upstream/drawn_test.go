@@ -49,6 +49,9 @@ type drawn struct {
 // byte for byte; what is attached there the books have, and what they have besides was under way; and where that is asked for again both are the same.
 func TestDrawn(t *testing.T) {
 	count := 800
+	if testing.Short() {
+		count = 300
+	}
 	if set, err := strconv.Atoi(os.Getenv("TUFAYON_TEST_DRAWN")); err == nil {
 		count = set
 	}

@@ -134,19 +134,26 @@ func (proxy *Proxy) carry(ctx context.Context, core *serving.Core, method string
 	if err != nil {
 		return passing.Response{}, err
 	}
-	reply := metadata.MD{}
-	if answer.Reply.Kind != 0 {
-		reply.Set(numbers.ReplyKey, numbers.Text(answer.Reply.Number))
-	}
 	if code := codes.Code(answer.Reply.Status); code != codes.OK {
-		return passing.Response{Trailer: reply}, status.Error(code, whole(ctx, core, answer.Reply))
+		return passing.Response{Trailer: replied(nil, answer.Reply)}, status.Error(code, whole(ctx, core, answer.Reply))
 	}
 	response, err := responseOf(answer.Acted)
-	if len(response.Trailer) > 0 {
-		reply = metadata.Join(response.Trailer, reply)
-	}
-	response.Trailer = reply
+	response.Trailer = replied(response.Trailer, answer.Reply)
 	return response, err
+}
+
+// replied is a trailer, which isn't changed, and that the plugin replied, if it did.
+func replied(trailer metadata.MD, reply frames.Reply) metadata.MD {
+	if reply.Kind == 0 {
+		return trailer
+	}
+	its := make(metadata.MD, len(trailer)+1)
+	for key, values := range trailer {
+		its[key] = values
+	}
+	values := its[numbers.ReplyKey]
+	its[numbers.ReplyKey] = append(values[:len(values):len(values)], numbers.Text(reply.Number))
+	return its
 }
 
 // responseOf is what a deed gave.

@@ -43,6 +43,7 @@ type Proxy struct {
 	nodes   *nodes // of a controller; only the plugin's goroutine has it
 	lost    map[string]bool
 	taken   gauge // of nodes
+	kept    passing.Kept
 	watch   []grpc.UnaryServerInterceptor
 
 	mutex sync.Mutex
@@ -68,7 +69,10 @@ func New(options Options) (*Proxy, error) {
 }
 
 // Close closes the connection to the upstream.
-func (proxy *Proxy) Close() error { return proxy.behind.Close() }
+func (proxy *Proxy) Close() error {
+	proxy.kept.Close()
+	return proxy.behind.Close()
+}
 
 // Opened is called once there is a core, over a plugin that was made by this, and before it is served.
 func (proxy *Proxy) Opened(ctx context.Context, core *serving.Core, maker plugin.Maker) error {
@@ -101,7 +105,7 @@ type server struct {
 func (proxy *Proxy) Server(backend *driver.Backend, limits *limiting.Limits, program string, more ...grpc.ServerOption) *grpc.Server {
 	its := &server{proxy: proxy, backend: backend, program: program, log: os.Stderr}
 	options := append(limits.Options(), grpc.MaxHeaderListSize(maxMetadata), grpc.StreamInterceptor(limits.InterceptStream))
-	options = append(options, passing.Options(its.handle)...)
+	options = append(options, passing.Options(proxy.kept.Handle(its.handle))...)
 	return grpc.NewServer(append(options, more...)...)
 }
 
@@ -148,7 +152,7 @@ func (server *server) unary(stream grpc.ServerStream, answer func(context.Contex
 		return err
 	}
 	if len(response.Header) > 0 {
-		if err := stream.SetHeader(response.Header); err != nil {
+		if err := stream.SendHeader(response.Header); err != nil {
 			return err
 		}
 	}

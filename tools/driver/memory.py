@@ -6,7 +6,7 @@ import subprocess
 
 from program import stores
 from program.frames import block
-from program.running import LIMIT, LeftOut, wanted
+from program.running import BARE, LIMIT, LeftOut, wanted
 from program.talks import life, line
 
 from .requests import attach, create, delete, detach, publish, stage, unpublish, unstage
@@ -105,7 +105,7 @@ def answered(box, which, lines):
     stores.make(path, DELETED)
     words = [f"{box.built}/csi-orchestrator-refused", path, box.at("config")]
     given = b"".join(given for given, _ in TALK.pairs[:lines])
-    ran = subprocess.run(words, input=given, env={"REFUSED": str(which)}, capture_output=True, timeout=LIMIT, check=False)
+    ran = subprocess.run(words, input=given, env={**BARE, "REFUSED": str(which)}, capture_output=True, timeout=LIMIT, check=False)
     return ran.returncode, ran.stdout, ran.stderr, stores.parts_of(path)
 
 

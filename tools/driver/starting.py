@@ -4,7 +4,7 @@ import subprocess
 
 from program import frames, stores
 from program.frames import block
-from program.running import LIMIT, wanted
+from program.running import BARE, LIMIT, wanted
 
 from .box import put_to_sleep
 from .requests import attach, create, publish, stage, unstage
@@ -150,7 +150,7 @@ def refused(box):
 
 
 def started(box, words):
-    ran = subprocess.run([f"{box.built}/csi-driver", *words], env={}, capture_output=True, timeout=LIMIT, check=False)
+    ran = subprocess.run([f"{box.built}/csi-driver", *words], env=BARE, capture_output=True, timeout=LIMIT, check=False)
     return ran.returncode, ran.stderr.decode()
 
 

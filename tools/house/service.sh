@@ -13,8 +13,8 @@ service_tree() {
 }
 
 # Has Go find packages below $1 and Debian's, and link the library $2. Go's cache is CSI_GOCACHE, or below $1: with the former, who builds the same later
-# has at once what isn't of $1. Where `trimmed` is set, what is built has no folder's name. Else Go's own packages are taken as Debian compiled them, and not
-# anew, which is half of it: they are of no other flags of cgo, so that ours are in a file of the one package that needs them.
+# has at once what isn't of $1. Where `trimmed` is set, what is built has no folder's name. Else, without the race detector, Go's own packages are taken as
+# Debian compiled them, and not anew: they are of no other flags of cgo, so that ours are in a file of the one package that needs them.
 service_environment() {
     local needed="$2 $(dirname "$(rt doc)")/c/liblibc_c.a"
     export GO111MODULE=off GOPATH="$1:/usr/share/gocode" GOFLAGS=-p=2 GOCACHE="${CSI_GOCACHE:-$1/cache}"
@@ -35,13 +35,26 @@ service_linked() {
     for it in "$@"; do go list -deps -f "$each" "./cmd/$it" | sed '/^$/d' > "$folder/$it"; done
 }
 
+# `go build`, `vet` or `test`, with the race detector: for programs and tests alike, so that each package is compiled once. It compiles quickly: no call is
+# inlined, nothing is written for debuggers, and Go's commands, and what they run, collect garbage seldom.
+detecting() {
+    local command="$1"
+    shift
+    GOGC=400 go "$command" -race "-gcflags=all=-l -dwarf=false" "$@"
+}
+
+# Has a program that detecting built, where it finds a race, write that to a file in the folder $1, and end with status 66.
+detected_in() {
+    mkdir -p "$1"
+    export GORACE="log_path=$1/race halt_on_error=1 atexit_sleep_ms=0"
+}
+
 # Runs a command that builds, one at a time of those that share a cache: who comes second finds what the first has built.
 in_turn() {
-    if [ -n "${CSI_GOCACHE-}" ]; then
-        flock "$CSI_GOCACHE.lock" "$@"
-    else
+    (
+        [ -z "${CSI_GOCACHE-}" ] || { exec 9> "$CSI_GOCACHE.lock" && flock 9; }
         "$@"
-    fi
+    )
 }
 
 # Runs the benchmarks of the package $2 for the script $1, with the words that follow for `go test`, over the library that tools/embed leaves, or -l LIBRARY.

@@ -96,11 +96,11 @@ class Building:
         before = Edit(edit).apply(self.tree) if edit else {}
         try:
             names = "tufayon-orchestrator tufayon-controller tufayon-node tufayonctl"
-            self.go(f'cd "$1/go/src/tufayon/service"; for it in {names}; do in_turn go build -ldflags="-s -w" -o "$2/$it" "./cmd/$it"; done', self.folder, built)
+            self.go(f'cd "$1/go/src/tufayon/service"; for it in {names}; do in_turn detecting build -ldflags="-s -w" -o "$2/$it" "./cmd/$it"; done', self.folder, built)
         finally:
             put_back(before)
         if not os.path.exists(self.wire):
-            self.go('cd "$top/tools/machining/wire"; test -z "$(gofmt -l .)"; go vet .; go build -o "$3" .', self.folder, self.library, self.wire)
+            self.go('cd "$top/tools/machining/wire"; test -z "$(gofmt -l .)"; detecting vet .; go build -o "$3" .', self.folder, self.library, self.wire)
         return built
 
     def try_edits(self):

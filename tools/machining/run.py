@@ -40,6 +40,7 @@ class Run:
             self.broken.prepare(self.system)
         elif self.drawn.random() < 0.25:
             os.environ["TUFAYON_SLOW"] = "0.3"  # the storage takes its time
+        os.environ["GORACE"] = "halt_on_error=1 atexit_sleep_ms=0"  # where a race is found, a program ends as none may, and its log has it
         try:
             for port in PORT.values():
                 self.system.wire.tell("tape", port)

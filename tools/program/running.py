@@ -6,6 +6,8 @@ import threading
 from dataclasses import dataclass
 
 LIMIT = 60  # seconds that a run may take
+# All that a program gets of the environment: how one of Go's that has the race detector tells of a race.
+BARE = {name: os.environ[name] for name in ("GORACE",) if name in os.environ}
 SERVING = ("controller", "node", "orchestrator")  # what opens a store, and has a log while it is open
 
 
@@ -108,7 +110,7 @@ class Running:
     def __init__(self, words, folder, pipe=None):
         """`pipe`: the one that it reads; else it has one of its own, and is sent something."""
         pipes = {"stdin": pipe.reading if pipe else subprocess.PIPE, "stdout": subprocess.PIPE, "stderr": subprocess.PIPE}
-        self.process = subprocess.Popen(words, cwd=folder, env={}, bufsize=0, **pipes)
+        self.process = subprocess.Popen(words, cwd=folder, env=BARE, bufsize=0, **pipes)
         if pipe:
             os.close(pipe.reading)
         self.limit = threading.Timer(LIMIT, self.process.kill)
@@ -189,7 +191,7 @@ class Box:
         elif "stdin" not in how:
             how["input"] = given
         try:
-            ran = subprocess.run([*before, self.program, *words], cwd=self.folder, env=env or {}, timeout=LIMIT, **how)
+            ran = subprocess.run([*before, self.program, *words], cwd=self.folder, env=env or BARE, timeout=LIMIT, **how)
         except subprocess.TimeoutExpired:
             raise Wrong(f"{words} didn't end in {LIMIT} seconds") from None
         finally:

@@ -9,6 +9,7 @@ import (
 	"net"
 	"os"
 	"sort"
+	"strings"
 	"sync"
 	"testing"
 	"time"
@@ -41,6 +42,9 @@ type Told struct {
 	Header   metadata.MD
 	Deadline time.Time // none where it is zero
 }
+
+// Unread stands before the name of a call that is to be the same here, and that a driver before this one doesn't know.
+const Unread = "/unread"
 
 // An Upstream is the driver. What it has outlives its deaths.
 type Upstream struct {
@@ -285,7 +289,7 @@ func (upstream *Upstream) faultOf(method string) Fault {
 }
 
 func (upstream *Upstream) answer(method string, request []byte, life int) ([]byte, error) {
-	deed, of, err := upstream.deed(method, request)
+	deed, of, err := upstream.deed(strings.TrimPrefix(method, Unread), request)
 	if err != nil {
 		return nil, err
 	}
