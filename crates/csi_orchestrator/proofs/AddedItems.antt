@@ -1,30 +1,28 @@
 -- What each input adds to a history: few items that leave it well-formed, each reply among them came, and the answer has the
 -- frame of the call that is sent, if one is.
 use Rattle.csi_orchestrator.proofs.Words.{◌≡◌, ◌+◌, ◌^◌, ◌≤◌, ℕ, List, [], ◌∷◌, ◌++◌, append_assoc, length, map, Bool}
-use Rattle.csi_orchestrator.proofs.Words.{true, false, cond, refl, sym, ◌∙◌, ap, subst, arith, AllByRecursion}
-use Rattle.csi_orchestrator.proofs.Words.{cons_option, suc, Option, Some, None, filter, filter_map, nat_lt, is_none}
-use Rattle.csi_orchestrator.proofs.Words.{◌==◌, ◌&&◌, Result, Ok, Err, option_and_then, Call, Kind, Body, Number, Reply}
-use Rattle.csi_orchestrator.proofs.Words.{kind_of, Frame, IsBefore, is_ok_status, same_text, same_number, same_party}
-use Rattle.csi_orchestrator.proofs.Words.{same_kind, OrchFault, No, Thing, Exists, Issued, is_no, Item, Started, Lost}
-use Rattle.csi_orchestrator.proofs.Words.{Forgotten, Accepted, Noted, History, with_items, newest}
-use Rattle.csi_orchestrator.proofs.Words.{noted_for, known, id_of, goal_of, open_call, names_of, tries, last_number}
-use Rattle.csi_orchestrator.proofs.Words.{nodes_of, issued_in, IsOfName, IsNextNumber, IsUnused, AreWellFormed}
-use Rattle.csi_orchestrator.proofs.Words.{IsWellFormed, next_number, create_fault, use_fault, use_room_fault}
-use Rattle.csi_orchestrator.proofs.Words.{stop_fault, delete_fault, delete_busy_fault, timeout_fault, restart_fault}
-use Rattle.csi_orchestrator.proofs.Words.{loss_fault, Due, call_for, due_kind, due_for, due_call, Input, ToCreate}
-use Rattle.csi_orchestrator.proofs.Words.{ToUse, ToStop, ToDelete, TimesOut, Comes, Restarts, Loses, Answer, Restarted}
-use Rattle.csi_orchestrator.proofs.Words.{GivenUp, Sends, Moved, met_already, sent_as, send_due, command, use_when}
-use Rattle.csi_orchestrator.proofs.Words.{delete_when, undoing_goal, closing, is_forward_due, timeout, is_number_open}
-use Rattle.csi_orchestrator.proofs.Words.{call_replied, hears, heard, heard_refusal, deliver, is_forgotten, forgetting}
-use Rattle.csi_orchestrator.proofs.Words.{stopping, stopping_all, restart, without_node, lose, moves, moved_to}
-use Rattle.csi_orchestrator.proofs.Words.{IsReplyTo, most_items, frame_of, frame_if_sent, frames_in}
+use Rattle.csi_orchestrator.proofs.Words.{true, false, cond, refl, sym, ◌∙◌, ap, subst, arith, AllByRecursion, suc}
+use Rattle.csi_orchestrator.proofs.Words.{Option, Some, None, filter, filter_map, nat_lt, is_none, ◌==◌, ◌&&◌, Result}
+use Rattle.csi_orchestrator.proofs.Words.{Ok, Err, option_and_then, Call, Kind, Body, Number, Reply, kind_of, Frame}
+use Rattle.csi_orchestrator.proofs.Words.{IsBefore, is_ok_status, same_number, same_party, same_kind, OrchFault, No}
+use Rattle.csi_orchestrator.proofs.Words.{Thing, Exists, Issued, is_no, Item, Started, Lost, Forgotten, Accepted}
+use Rattle.csi_orchestrator.proofs.Words.{Noted, History, with_items, newest, noted_for, known, goal_of, open_call}
+use Rattle.csi_orchestrator.proofs.Words.{names_of, tries, last_number, nodes_of, issued_in, IsOfName, IsNextNumber}
+use Rattle.csi_orchestrator.proofs.Words.{IsUnused, AreWellFormed, IsWellFormed, next_number, create_fault, use_fault}
+use Rattle.csi_orchestrator.proofs.Words.{use_room_fault, stop_fault, delete_fault, timeout_fault, restart_fault}
+use Rattle.csi_orchestrator.proofs.Words.{loss_fault, Due, call_for, due_for, due_call, Input, ToCreate, ToUse, ToStop}
+use Rattle.csi_orchestrator.proofs.Words.{ToDelete, TimesOut, Comes, Restarts, Loses, Answer, Restarted, GivenUp}
+use Rattle.csi_orchestrator.proofs.Words.{Sends, Moved, met_already, sent_as, send_due, command, use_when, delete_when}
+use Rattle.csi_orchestrator.proofs.Words.{undoing_goal, closing, is_forward_due, timeout, is_number_open, call_replied}
+use Rattle.csi_orchestrator.proofs.Words.{hears, heard, heard_refusal, deliver, is_forgotten, forgetting, stopping}
+use Rattle.csi_orchestrator.proofs.Words.{stopping_all, restart, without_node, lose, moves, moved_to, IsReplyTo}
+use Rattle.csi_orchestrator.proofs.Words.{most_items, frame_of, frame_if_sent, frames_in}
 use Rattle.csi_orchestrator.proofs.Lemmas.{eq-eqb, lt-ltb, le-ltb, and_parts, false≢true, length-append}
 use Rattle.csi_orchestrator.proofs.Lemmas.{same_text-tells, each-passes, among-find, find-passes}
 use Rattle.csi_types.specs.declared.call.Call.TheVariants as calls
-use Rattle.csi_types.specs.declared.call.Kind.TheVariants as kinds
 use Rattle.csi_types.specs.declared.frame.Body.TheVariants as bodies
 use Rattle.csi_types.specs.Model.Replies.{reply_frame}
-use Rattle.csi_orchestrator.specs.Model.History.{Usage, Goal, Create, Use, Stop, Delete}
+use Rattle.csi_orchestrator.specs.Model.History.{Usage, Goal, Create, Use, Stop}
 use Rattle.csi_orchestrator.proofs.BegunItems.{AreAside, forgetting-aside, stopping-aside, loss-aside, issued-aside, form-aside, few-forgotten, few-begun}
 use Rattle.csi_orchestrator.proofs.KnownTests.{no_is_no}
 use Rattle.csi_orchestrator.proofs.RepliedRows.{own-open}
@@ -42,23 +40,11 @@ IsNamed name (Some due) = IsOfName name due.call
 
 -- whatever its kind
 named_call : (name : List ℕ) (goal : Option Goal) (id : Option ℕ) (kind : Kind) → IsNamed name (call_for name goal id kind)
-named_call name (Some (Create arguments)) id kinds.CreateVolume = refl
-named_call name (Some (Use usage)) (Some id) kinds.ControllerPublishVolume = tt
-named_call name (Some (Use usage)) (Some id) kinds.NodeStageVolume = tt
-named_call name (Some (Use usage)) (Some id) kinds.NodePublishVolume = tt
-named_call name (Some (Stop node target)) (Some id) kinds.NodeUnpublishVolume = tt
-named_call name (Some (Stop node target)) (Some id) kinds.NodeUnstageVolume = tt
-named_call name (Some (Stop node target)) (Some id) kinds.ControllerUnpublishVolume = tt
-named_call name (Some Delete) (Some id) kinds.DeleteVolume = tt
-named_call name goal id kind = tt
+named_call name goal id kind = grind arith
 
 -- the call that is due for a goal
 named_for : (history : History) (name : List ℕ) (goal : Option Goal) → IsNamed name (due_for history name goal)
-named_for history name goal = by (option_and_then (due_kind history name) goal)
-  where
-    by : (kind : Option Kind) → IsNamed name (option_and_then (call_for name goal (id_of history name)) kind)
-    by None = tt
-    by (Some kind) = named_call name goal (id_of history name) kind
+named_for history name goal = grind (arith, named_call)
 
 -- the next number, where one is left
 abbrev pub IsNextIfSome : Number → Option Number → Type 0
@@ -67,11 +53,7 @@ IsNextIfSome last (Some number) = IsNextNumber last number
 
 -- a call of a session is before the next one
 is_before_next : (session call : ℕ) → IsBefore (record { session = session; call = call }) (record { session = session; call = call + 1 })
-is_before_next session call =
-    let same : nat_lt session session ≡ false = le-ltb session session (omega arith) in
-    let equal : (session == session) ≡ true = eq-eqb session session refl in
-    let less : nat_lt call (call + 1) ≡ true = lt-ltb call (call + 1) (omega arith) in
-    simp (same, equal, less)
+is_before_next session call = grind (arith, le-ltb, eq-eqb, lt-ltb)
 
 -- the number that is given next is the next one, if one is left
 pub is_next : (last : Number) → IsNextIfSome last (next_number last)
@@ -129,10 +111,7 @@ noted-after history input name goal items quiet short =
 
 -- nothing is sent after them
 rests : (history : History) (input : Input) (answer : Answer) (items : List Item) → frames_in answer ≡ [] → AreQuiet history input items → AreAdded history input (Ok (record { answer = answer; items = items }))
-rests history input answer items says quiet =
-    let few = quiet.few in
-    let plain = quiet.plain in
-    record { form = quiet.form; replies = quiet.replies; passing = quiet.passing; few = omega (arith, few, plain); frames = ap (map frame_of) quiet.silent ∙ sym says }
+rests history input answer items says quiet = grind arith
 
 -- the due call is sent, or the goal dropped
 sends-due : (history : History) (input : Input) (name : List ℕ) (answer : Option Frame → Answer) (items : List Item) → ((o : Option Frame) → frames_in (answer o) ≡ frame_if_sent o) → AreQuiet history input items
@@ -170,15 +149,11 @@ used history input name usage None form plain =
 
 -- what a delete adds is as it has to be
 deleted : (history : History) (input : Input) (name : List ℕ) (fault : Option OrchFault) → IsWellFormed history → most_items history input ≡ 3 → AreAdded history input (delete_when history name fault)
-deleted history input name (Some fault) form plain = tt
-deleted history input name None form plain =
-    either (AreAdded history input) (is_no (known history (Exists name))) (Ok met_already) _ (rests history input _ [] refl (no-items history input form plain)) (commanded history input name Delete (delete_busy_fault history name) form plain)
+deleted history input name fault form plain = grind (arith, either, rests, no-items, commanded)
 
 -- the open call, if there is one, is given up
 given-up : (history : History) (input : Input) (name : List ℕ) (o : Option Issued) → open_call history name ≡ o → IsWellFormed history → most_items history input ≡ 3 → AreQuiet history input (closing o) × (length (closing o) ≤ 1)
-given-up history input name None is form plain = (no-items history input form plain, omega arith)
-given-up history input name (Some issued) is form plain =
-    (record { form = (record { name = name; issued = issued; is_open = is; has_number = refl }, form); replies = tt; passing = tt; few = omega arith; silent = refl; same_last = refl; plain = plain }, omega arith)
+given-up history input name o is form plain = grind (arith, no-items)
 
 -- a timeout
 timed-out : (history : History) (input : Input) (name : List ℕ) (fault : Option OrchFault) → IsWellFormed history → most_items history input ≡ 3 → AreAdded history input (timeout history name fault)
@@ -273,36 +248,13 @@ forgets-pass history input first stays passing (name ∷ names) all = (after nam
 passing-aside : (history : History) (input : Input) (goals : List ℕ → Option Goal) (node : List ℕ) (first : List Item) → ArePassing history input first → (names : List (List ℕ))
     → ArePassing history input (filter_map (λ name. stopping node name (goals name)) names ++ first)
 passing-aside history input goals node first passing [] = passing
-passing-aside history input goals node first passing (name ∷ names) = by (goals name) (passing-aside history input goals node first passing names)
-  where
-    by : (goal : Option Goal) → ArePassing history input (filter_map (λ n. stopping node n (goals n)) names ++ first)
-        → ArePassing history input (cons_option (stopping node name goal) (filter_map (λ n. stopping node n (goals n)) names) ++ first)
-    by (Some (Use usage)) rest = at (same_text usage.node node)
-      where
-        at : (b : Bool) → ArePassing history input (cons_option (cond b (Some (Noted name (Some (Stop usage.node usage.target)))) None) (filter_map (λ n. stopping node n (goals n)) names) ++ first)
-        at true = rest
-        at false = rest
-    by goal rest = rest
+passing-aside history input goals node first passing (name ∷ names) = grind (arith, (passing-aside history input goals node first passing names))
 
 -- of a name of which nothing is wanted they note nothing
 stops-silent : (node name : List ℕ) (goals : List ℕ → Option Goal) → goals name ≡ None → (names : List (List ℕ)) (rest : List Item)
     → filter_map (noted_for name) (filter_map (λ n. stopping node n (goals n)) names ++ rest) ≡ filter_map (noted_for name) rest
 stops-silent node name goals idle [] rest = refl
-stops-silent node name goals idle (other ∷ others) rest = by (same_text other name) refl (goals other) refl (stops-silent node name goals idle others rest)
-  where
-    by : (b : Bool) → same_text other name ≡ b → (goal : Option Goal) → goals other ≡ goal
-        → filter_map (noted_for name) (filter_map (λ n. stopping node n (goals n)) others ++ rest) ≡ filter_map (noted_for name) rest
-        → filter_map (noted_for name) (cons_option (stopping node other goal) (filter_map (λ n. stopping node n (goals n)) others) ++ rest) ≡ filter_map (noted_for name) rest
-    by true e (Some goal) f then = absurd (clash goal (sym (ap goals ((same_text-tells other name).0 e) ∙ idle) ∙ f))
-      where
-        clash : (goal : Goal) → None ≡ Some goal → ⊥
-        clash goal h = cc
-    by false e (Some (Use usage)) f then = at (same_text usage.node node)
-      where
-        at : (t : Bool) → filter_map (noted_for name) (cons_option (cond t (Some (Noted other (Some (Stop usage.node usage.target)))) None) (filter_map (λ n. stopping node n (goals n)) others) ++ rest) ≡ filter_map (noted_for name) rest
-        at true = ap (λ b. cons_option (cond b (Some (Some (Stop usage.node usage.target))) None) (filter_map (noted_for name) (filter_map (λ n. stopping node n (goals n)) others ++ rest))) e ∙ then
-        at false = then
-    by b e goal f then = then
+stops-silent node name goals idle (other ∷ others) rest = grind (arith, same_text-tells, (stops-silent node name goals idle others rest))
 
 -- what is known stays where names are forgotten and something is noted, and where a session starts
 known-aside : (history : History) (thing : Thing) (later : List Item) → AreAside later → known (with_items history later) thing ≡ known history thing

@@ -2,9 +2,9 @@
 use Rattle.csi_orchestrator.proofs.Words.{◌≡◌, ◌<◌, ◌+◌, ℕ, List, [], ◌∷◌, ◌++◌, false, refl, sym, ◌∙◌, ap, subst}
 use Rattle.csi_orchestrator.proofs.Words.{arith, Option, Some, None, option_and_then, AllByRecursion, EachTwo, Call}
 use Rattle.csi_orchestrator.proofs.Words.{Party, Controller, Number, same_text, History, Started, history_after}
-use Rattle.csi_orchestrator.proofs.Words.{with_items, last_number, IsWellFormed, Agrees, RowShown, NodeEntryShown}
-use Rattle.csi_orchestrator.proofs.Words.{OrchestratorParts, row_of, mark_in, mark_of, open_in_row, orchestrator_view}
-use Rattle.csi_orchestrator.proofs.Words.{Shows, IsRestorable, after_started}
+use Rattle.csi_orchestrator.proofs.Words.{with_items, last_number, IsWellFormed, RowShown, NodeEntryShown}
+use Rattle.csi_orchestrator.proofs.Words.{OrchestratorParts, row_of, open_in_row, orchestrator_view, Shows}
+use Rattle.csi_orchestrator.proofs.Words.{IsRestorable}
 use Rattle.csi_orchestrator.proofs.Lemmas.{false≢true, append-nil, append_assoc, all_of, each_of, among-find}
 use Rattle.csi_types.specs.declared.call.Call.TheVariants as calls
 use Rattle.csi_orchestrator.proofs.RowViews.{put-agrees}
@@ -19,12 +19,7 @@ parts_after nodes last rows = record { nodes = nodes; last = last; rows = rows }
 
 -- of a name without a row nothing is shown
 no-row : (parts : OrchestratorParts) (name : List ℕ) → row_of parts.rows name ≡ None → IsUnknown (orchestrator_view parts) name
-no-row parts name none =
-    record {
-      marks = λ thing is. ap (λ n. mark_in (mark_of thing) (row_of parts.rows n)) is ∙ ap (mark_in (mark_of thing)) none;
-      ids = ap (option_and_then (λ (r : RowShown). r.id)) none;
-      open_calls = ap (option_and_then open_in_row) none;
-    }
+no-row parts name none = grind arith
 
 -- a history of which this is kept, in the session of this number, tells these rows
 pub record AreTold (P : History → Type 0) (nodes : List (List ℕ)) (start : Number) (rows : List RowShown) : Type 0 where
@@ -111,22 +106,7 @@ none-open nodes rows name each = by (row_of rows name) refl
 -- a later session tells the same rows, none of which has an open call
 pub started-told : (nodes : List (List ℕ)) (session : ℕ) (last : Number) (rows : List RowShown) (history : History) → AllByRecursion (IsRestorable nodes) rows → Shows (parts_after nodes last rows) history → (last_number history).session < session
     → Shows (record { nodes = nodes; last = record { session = session; call = 0 }; rows = rows }) (with_items history (Started session nodes ∷ []))
-started-told nodes session last rows history each agrees less =
-    record {
-      same_nodes = now.same_nodes;
-      same_last = now.same_last;
-      same_rows = now.same_rows;
-      same_marks = now.same_marks;
-      same_ids = now.same_ids;
-      same_goals = now.same_goals;
-      same_arguments = now.same_arguments;
-      same_holdings = now.same_holdings;
-      same_open_calls = λ name. none-open nodes rows name each ∙ now.same_open_calls name;
-      same_counts = now.same_counts;
-    }
-  where
-    now : Agrees (after_started session nodes (orchestrator_view (parts_after nodes last rows))) (with_items history (Started session nodes ∷ []))
-    now = view-follows.started (orchestrator_view (parts_after nodes last rows)) history session nodes agrees less
+started-told nodes session last rows history each agrees less = grind (arith, none-open, view-follows)
 
 -- ---- whatever rows keep the rules
 

@@ -1,13 +1,12 @@
 -- What the rows show where a session begins is what the history tells: rows that are forgotten, and those that stay.
-use Rattle.csi_orchestrator.proofs.Words.{◌≡◌, ◌≢◌, ℕ, List, [], ◌∷◌, map, Bool, true, false, cond, not, refl, sym, ◌∙◌}
-use Rattle.csi_orchestrator.proofs.Words.{ap, subst, Option, Some, None, find, filter, is_some, is_none, option_map}
-use Rattle.csi_orchestrator.proofs.Words.{option_and_then, ◌&&◌, list_any, Number, same_text, Thing, Exists, Attached}
-use Rattle.csi_orchestrator.proofs.Words.{Staged, Published, Known, Yes, No, name_in, is_no, History, is_gone_with}
-use Rattle.csi_orchestrator.proofs.Words.{goal_of, names_of, has_row, is_forgotten, OrchestratorView, Agrees, RowShown}
-use Rattle.csi_orchestrator.proofs.Words.{OrchestratorParts, row_of, mark_in, publication_known, mark_of, goal_shown}
-use Rattle.csi_orchestrator.proofs.Words.{goal_in, held_on_node, open_in_row, tries_in, Shows, is_row_forgotten}
-use Rattle.csi_orchestrator.proofs.Words.{remembered, row_at_loss, closed, AreSoundRows, HasTries, IsSteadyRowIf}
-use Rattle.csi_orchestrator.proofs.Words.{AreSteadyRowsIf}
+use Rattle.csi_orchestrator.proofs.Words.{◌≡◌, ℕ, List, [], ◌∷◌, map, Bool, true, false, cond, refl, sym, ◌∙◌, ap}
+use Rattle.csi_orchestrator.proofs.Words.{Option, Some, None, filter, is_some, is_none, option_map, option_and_then}
+use Rattle.csi_orchestrator.proofs.Words.{◌&&◌, list_any, Number, same_text, Thing, Exists, Attached, No, name_in}
+use Rattle.csi_orchestrator.proofs.Words.{is_no, History, is_gone_with, goal_of, names_of, has_row, is_forgotten}
+use Rattle.csi_orchestrator.proofs.Words.{OrchestratorView, Agrees, RowShown, OrchestratorParts, row_of, mark_in}
+use Rattle.csi_orchestrator.proofs.Words.{mark_of, goal_shown, goal_in, held_on_node, open_in_row, tries_in, Shows}
+use Rattle.csi_orchestrator.proofs.Words.{is_row_forgotten, remembered, row_at_loss, closed, AreSoundRows}
+use Rattle.csi_orchestrator.proofs.Words.{IsSteadyRowIf, AreSteadyRowsIf, arith}
 use Rattle.csi_orchestrator.proofs.Lemmas.{false≢true, and_parts, each_of, among-find, among-kept, in_filter, find-map}
 use Rattle.csi_orchestrator.proofs.Lemmas.{find-none, alike, any-then, then-any, same_text-tells}
 use Rattle.csi_orchestrator.specs.declared.row.Goal.{Goal as KeptGoal}
@@ -27,25 +26,7 @@ unless_forgotten row = cond (is_row_forgotten row) None (Some row)
 -- the row of a name among those that are remembered
 pub remembered-of : (rows : List RowShown) (name : List ℕ) → AreApart (λ (r : RowShown). r.name) rows → row_of (remembered rows) name ≡ option_and_then unless_forgotten (row_of rows name)
 remembered-of [] name apart = refl
-remembered-of (row ∷ rows) name apart = by (same_text row.name name) refl (is_row_forgotten row) refl (remembered-of rows name apart.1)
-  where
-    -- no other row is of the name
-    gone : same_text row.name name ≡ true → row_of (remembered rows) name ≡ None
-    gone e =
-        find-none (λ (r : RowShown). same_text r.name name) (remembered rows)
-        (λ other among.
-        let there = among-kept (λ (r : RowShown). not (is_row_forgotten r)) rows other among in
-        subst (λ n. same_text other.name n ≡ false) ((same_text-tells row.name name).0 e) (flip row.name other.name (each_of (λ (r : RowShown). same_text row.name r.name ≡ false) rows other apart.0 there.0)))
-      where
-        flip : (a b : List ℕ) → same_text a b ≡ false → same_text b a ≡ false
-        flip a b f = same_text-flip b a ∙ f
-
-    by : (n : Bool) → same_text row.name name ≡ n → (f : Bool) → is_row_forgotten row ≡ f → row_of (remembered rows) name ≡ option_and_then unless_forgotten (row_of rows name)
-        → row_of (cond (not f) (row ∷ remembered rows) (remembered rows)) name ≡ option_and_then unless_forgotten (cond n (Some row) (row_of rows name))
-    by true e true f rest = gone e ∙ sym (ap (λ b. cond b None (Some row)) f)
-    by true e false f rest = ap (λ b. cond b (Some row) (row_of (remembered rows) name)) e ∙ sym (ap (λ b. cond b None (Some row)) f)
-    by false e true f rest = rest
-    by false e false f rest = ap (λ b. cond b (Some row) (row_of (remembered rows) name)) e ∙ rest
+remembered-of (row ∷ rows) name apart = grind (arith, find-none, among-kept, same_text-tells, each_of, same_text-flip, (remembered-of rows name apart.1))
 
 -- ---- the names that are forgotten
 
@@ -204,30 +185,11 @@ record IsGone (row : RowShown) : Type 0 where
 
 -- where it is steady
 gone-row : (row : RowShown) → is_row_forgotten row ≡ true → IsSteadyRowIf (Unit {0}) row → IsGone row
-gone-row row e steady =
-    let both = and_parts (is_no row.exists) (is_none row.goal) e in
-    let no = no_is_no row.exists both.0 in
-    let idle = none-is row.goal both.1 in
-    record {
-      exists = no;
-      goal = idle;
-      entries = steady.empty (λ yes. clash (sym no ∙ yes));
-      tries = subst (λ g. HasTries g row.tries) idle steady.tries;
-    }
-  where
-    none-is : (g : Option KeptGoal) → is_none g ≡ true → g ≡ None
-    none-is None h = refl
-    none-is (Some goal) h = absurd (false≢true h)
-
-    clash : No ≡ Yes → ⊥
-    clash h = cc
+gone-row row e steady = grind (arith, and_parts, no_is_no, false≢true)
 
 -- nothing is known of it
 gone-mark : (row : RowShown) → IsGone row → (thing : Thing) → mark_of thing row ≡ No
-gone-mark row gone (Exists name) = gone.exists
-gone-mark row gone (Attached name node) = ap (λ es. mark_in (λ e. e.attached) (find (λ e. same_text e.node node) es)) gone.entries
-gone-mark row gone (Staged name node) = ap (λ es. mark_in (λ e. e.staged) (find (λ e. same_text e.node node) es)) gone.entries
-gone-mark row gone (Published name node target) = ap (λ es. mark_in (publication_known target) (find (λ e. same_text e.node node) es)) gone.entries
+gone-mark row gone thing = grind arith
 
 -- its goal is none, with which it has no open call
 gone-goal : (row : RowShown) → IsGone row → goal_in row ≡ None
@@ -252,19 +214,4 @@ lost-calls node row = row-by (λ (r : RowShown). open_in_row r ≡ None) node ro
 
 -- a row that is forgotten is blank once a node was lost
 pub lost-blank : (node : List ℕ) (row : RowShown) → is_row_forgotten row ≡ true → IsSteadyRowIf (Unit {0}) row → IsBlank (row_at_loss node row)
-lost-blank node row e steady =
-    let gone = gone-row row e steady in
-    record {
-      marks = λ thing. lost-row-mark node row thing ∙ either (is_gone_with node thing) (mark_of thing row) (gone-mark row gone thing);
-      goal = lost-goal node row ∙ ap (stopped node) (gone-goal row gone);
-      calls = lost-calls node row;
-      tries = lost-tries node row ∙ zero (is_stopped node (goal_in row)) row.tries gone.tries;
-    }
-  where
-    either : (b : Bool) (k : Known) → k ≡ No → cond b No k ≡ No
-    either true k h = refl
-    either false k h = h
-
-    zero : (b : Bool) (n : ℕ) → n ≡ 0 → cond b 0 n ≡ 0
-    zero true n h = refl
-    zero false n h = h
+lost-blank node row e steady = grind (arith, gone-row, lost-row-mark, gone-mark, lost-goal, stopped, gone-goal, lost-calls, lost-tries, is_stopped)

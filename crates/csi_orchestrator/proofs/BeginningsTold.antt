@@ -1,12 +1,11 @@
 -- What the rows tell of a restart and of a loss.
-use Rattle.csi_orchestrator.proofs.Words.{◌≡◌, ◌+◌, ℕ, List, [], ◌∷◌, Bool, cond, not, map, refl, sym, ◌∙◌, ap, subst}
-use Rattle.csi_orchestrator.proofs.Words.{Option, Some, None, Result, Ok, Err, OnOk, OnErr, IfErr, AllByRecursion}
-use Rattle.csi_orchestrator.proofs.Words.{same_text, OrchFault, Goal, Use, Stop, Row, OrchestratorCore}
-use Rattle.csi_orchestrator.proofs.Words.{Input, Answer, Restarts, Loses, Restarted, GivenUp, without_node, RowShown}
-use Rattle.csi_orchestrator.proofs.Words.{OrchestratorParts, is_row_forgotten, remembered, restart_refusal}
-use Rattle.csi_orchestrator.proofs.Words.{loss_refusal, restarted_parts, entry_at_loss, stopped_at, row_at_loss}
-use Rattle.csi_orchestrator.proofs.Words.{parts_at_loss, rows_of, orchestrator_parts_shown, MovedRows, moved_rows}
-use Rattle.csi_orchestrator.proofs.Words.{IsRefusal, row_shown, closed, moved_unless, row_moves, IsMoveOf, without_call}
+use Rattle.csi_orchestrator.proofs.Words.{◌≡◌, ◌+◌, ℕ, List, [], ◌∷◌, not, map, refl, sym, ◌∙◌, ap, subst, Option}
+use Rattle.csi_orchestrator.proofs.Words.{Some, None, Result, Ok, Err, OnOk, OnErr, IfErr, AllByRecursion, OrchFault}
+use Rattle.csi_orchestrator.proofs.Words.{Row, OrchestratorCore, Input, Answer, Restarts, Loses, Restarted, GivenUp}
+use Rattle.csi_orchestrator.proofs.Words.{without_node, RowShown, OrchestratorParts, is_row_forgotten, remembered}
+use Rattle.csi_orchestrator.proofs.Words.{restart_refusal, loss_refusal, restarted_parts, row_at_loss, parts_at_loss}
+use Rattle.csi_orchestrator.proofs.Words.{rows_of, orchestrator_parts_shown, MovedRows, moved_rows, row_shown, closed}
+use Rattle.csi_orchestrator.proofs.Words.{moved_unless, row_moves, IsMoveOf, without_call, arith}
 use Rattle.csi_orchestrator.proofs.Lemmas.{each-filter, filter-of_map}
 use Rattle.csi_orchestrator.proofs.BeginningsAgree.{same-parts}
 
@@ -37,28 +36,14 @@ closed-remembered rows = filter-of_map (λ (r : RowShown). not (is_row_forgotten
 -- nor whether they are where a node is lost
 lost-of_closed : (node : List ℕ) (rows : List RowShown) → map (row_at_loss node) (map closed rows) ≡ map (row_at_loss node) rows
 lost-of_closed node [] = refl
-lost-of_closed node (row ∷ rows) = λ i. one row.goal i ∷ lost-of_closed node rows i
-  where
-    one : (goal : Option Goal) → stopped_at node goal (record (closed row) { node_entries = map (entry_at_loss node) row.node_entries }) ≡ stopped_at node goal (record row { node_entries = map (entry_at_loss node) row.node_entries })
-    one (Some (Use usage)) = by (same_text usage.node node)
-      where
-        by : (b : Bool)
-            → cond b (let r : RowShown = record row { node_entries = map (entry_at_loss node) row.node_entries; goal = Some (Stop usage.node usage.target); open_call = None; tries = 0 } in r)
-            (let r : RowShown = record row { node_entries = map (entry_at_loss node) row.node_entries; open_call = None } in r)
-            ≡ cond b (let r : RowShown = record row { node_entries = map (entry_at_loss node) row.node_entries; goal = Some (Stop usage.node usage.target); open_call = None; tries = 0 } in r)
-            (let r : RowShown = record row { node_entries = map (entry_at_loss node) row.node_entries; open_call = None } in r)
-        by b = refl
-    one goal = refl
+lost-of_closed node (row ∷ rows) = grind (arith, (lost-of_closed node rows))
 
 -- ---- what is told
 
 -- unless it is refused, these parts are told
 told-unless : {R : Type 0} (old new then : OrchestratorParts) (input : Input) (fault : Option OrchFault) (answer : Answer) (result : Result R OrchFault) → row_moves old input ≡ moved_unless fault then answer
     → OnOk result ((fault ≡ None) × (new ≡ then)) → IfErr result (λ told. fault ≡ Some told) → OnErr result (new ≡ old) → IsMoveOf old new input (λ r. answer) result
-told-unless old new then input fault answer (Ok r) is ok err stays =
-    record { ok = is ∙ ap (λ f. moved_unless f then answer) ok.0 ∙ ap (λ p. moved_rows p answer) (sym ok.1); err = tt; stays = tt }
-told-unless old new then input fault answer (Err told) is ok err stays =
-    record { ok = tt; err = subst (λ (m : Result MovedRows OrchFault). IsRefusal m told) (sym (is ∙ ap (λ f. moved_unless f then answer) err)) refl; stays = stays }
+told-unless old new then input fault answer result is ok err stays = grind arith
 
 -- the parts where they move, or else these
 parts-of : OrchestratorParts → Result MovedRows OrchFault → OrchestratorParts

@@ -1,11 +1,11 @@
 -- What the beginning of a session adds to a history: beside its start, and the loss of a node, names are forgotten and uses stopped.
-use Rattle.csi_orchestrator.proofs.Words.{◌≡◌, ◌+◌, ◌≤◌, ℕ, List, [], ◌∷◌, ◌++◌, length, map, Bool, true, false, cond}
-use Rattle.csi_orchestrator.proofs.Words.{refl, sym, ◌∙◌, ap, arith, Option, Some, None, filter, filter_map, is_none}
-use Rattle.csi_orchestrator.proofs.Words.{◌&&◌, AllByRecursion, cons_option, Number, same_text, Exists, is_no, Item}
-use Rattle.csi_orchestrator.proofs.Words.{Forgotten, Noted, History, known, goal_of, issued_in, last_in, names_of}
-use Rattle.csi_orchestrator.proofs.Words.{IsUnused, AreWellFormed, is_forgotten, forgetting, stopping, stopping_all}
+use Rattle.csi_orchestrator.proofs.Words.{◌≡◌, ◌+◌, ◌≤◌, ℕ, List, [], ◌∷◌, ◌++◌, length, map, Bool, true, refl, ◌∙◌}
+use Rattle.csi_orchestrator.proofs.Words.{ap, arith, Option, None, filter, filter_map, AllByRecursion, cons_option}
+use Rattle.csi_orchestrator.proofs.Words.{Number, Item, Forgotten, Noted, History, goal_of, issued_in, last_in}
+use Rattle.csi_orchestrator.proofs.Words.{names_of, IsUnused, AreWellFormed, is_forgotten, forgetting, stopping}
+use Rattle.csi_orchestrator.proofs.Words.{stopping_all}
 use Rattle.csi_orchestrator.proofs.Lemmas.{false≢true, length-map, each-append}
-use Rattle.csi_orchestrator.specs.Model.History.{Goal, Use, Stop}
+use Rattle.csi_orchestrator.specs.Model.History.{Goal}
 
 -- a name is forgotten, or something is noted
 abbrev pub IsAside : Item → Type 0
@@ -24,12 +24,7 @@ forgotten-aside (name ∷ names) = (tt, forgotten-aside names)
 
 -- a use that is stopped
 stop-aside : (node name : List ℕ) (goal : Option Goal) (rest : List Item) → AreAside rest → AreAside (cons_option (stopping node name goal) rest)
-stop-aside node name (Some (Use usage)) rest aside = by (same_text usage.node node)
-  where
-    by : (b : Bool) → AreAside (cons_option (cond b (Some (Noted name (Some (Stop usage.node usage.target)))) None) rest)
-    by true = (tt, aside)
-    by false = aside
-stop-aside node name goal rest aside = aside
+stop-aside node name goal rest aside = grind arith
 
 -- each of them
 stops-aside : (node : List ℕ) (goals : List ℕ → Option Goal) (names : List (List ℕ)) → AreAside (filter_map (λ name. stopping node name (goals name)) names)
@@ -77,29 +72,11 @@ form-aside began (item ∷ later) older aside form unused = absurd aside.0
 -- of the names, each is in at most one of two lists
 few-in-both : (p : List ℕ → Bool) (f : List ℕ → Option Item) (names : List (List ℕ)) → ((name : List ℕ) → p name ≡ true → f name ≡ None) → length (filter p names) + length (filter_map f names) ≤ length names
 few-in-both p f [] apart = omega arith
-few-in-both p f (name ∷ names) apart = by (p name) refl (f name) refl (few-in-both p f names apart)
-  where
-    by : (b : Bool) → p name ≡ b → (o : Option Item) → f name ≡ o → length (filter p names) + length (filter_map f names) ≤ length names
-        → length (cond b (name ∷ filter p names) (filter p names)) + length (cons_option o (filter_map f names)) ≤ length (name ∷ names)
-    by true e None g least = omega arith
-    by true e (Some item) g least = absurd (clash item (sym (apart name e) ∙ g))
-      where
-        clash : (item : Item) → None ≡ Some item → ⊥
-        clash item h = cc
-    by false e None g least = omega arith
-    by false e (Some item) g least = omega arith
+few-in-both p f (name ∷ names) apart = grind (arith, (few-in-both p f names apart))
 
 -- a name that is forgotten has no use
 not-both : (history : History) (node name : List ℕ) → is_forgotten history name ≡ true → stopping node name (goal_of history name) ≡ None
-not-both history node name e = by (goal_of history name) (second (is_no (known history (Exists name))) (is_none (goal_of history name)) e)
-  where
-    second : (a b : Bool) → (a && b) ≡ true → b ≡ true
-    second true b h = h
-    second false b h = absurd (false≢true h)
-
-    by : (goal : Option Goal) → is_none goal ≡ true → stopping node name goal ≡ None
-    by None h = refl
-    by (Some goal) h = absurd (false≢true h)
+not-both history node name e = grind (arith, false≢true)
 
 -- one for each name at most is forgotten
 pub few-forgotten : (history : History) → length (forgetting history) ≤ length (names_of history)
@@ -110,7 +87,4 @@ few-forgotten history =
 
 -- or stopped
 pub few-begun : (history : History) (node : List ℕ) → length (forgetting history) + length (stopping_all history node) ≤ length (names_of history)
-few-begun history node =
-    let least = few-in-both (is_forgotten history) (λ name. stopping node name (goal_of history name)) (names_of history) (not-both history node) in
-    let long = length-map (filter (is_forgotten history) (names_of history)) Forgotten in
-    omega (arith, least, long)
+few-begun history node = grind (arith, few-in-both, not-both, length-map)

@@ -1,19 +1,18 @@
 -- Why what an orchestrator keeps stays within its bounds.
 use Rattle.csi_orchestrator.proofs.Words.{◌≡◌, ◌≤◌, ℕ, List, Bool, true, false, not, length, map, refl, sym, ◌∙◌, ap}
-use Rattle.csi_orchestrator.proofs.Words.{subst, arith, ◌&&◌, ◌||◌, Option, Some, None, is_some, is_none, nat_le}
-use Rattle.csi_orchestrator.proofs.Words.{Result, Ok, Err, AllByRecursion, list_any, Number, same_text, IsAmong}
-use Rattle.csi_orchestrator.proofs.Words.{OrchFault, Goal, Create, Outgoing, Step, Maybe, is_no, is_yes, Input}
-use Rattle.csi_orchestrator.proofs.Words.{without_node, NodeEntryShown, RowShown, OrchestratorParts, node_entry_of}
-use Rattle.csi_orchestrator.proofs.Words.{mark_in, mark_of, closed, Attached, is_row_forgotten, remembered, is_used_in}
-use Rattle.csi_orchestrator.proofs.Words.{leaves_out_used, restart_refusal, entry_at_loss, row_at_loss, due_in, new_row}
-use Rattle.csi_orchestrator.proofs.Words.{entry_for, with_entry, stopped_goal, wanted_row, known_by_success_of, is_last}
-use Rattle.csi_orchestrator.proofs.Words.{others_count, others_attached, use_refusal, room_refusal, step_refusal}
-use Rattle.csi_orchestrator.proofs.Words.{late_refusal, MovedRow, outgoing_by, row_moved, row_sends_due, row_rests}
-use Rattle.csi_orchestrator.proofs.Words.{row_unless, is_step_met, waits, is_given_up, timed_out, failed}
-use Rattle.csi_orchestrator.proofs.Words.{row_before_call, row_step, MovedRows, moved_rows, row_moves, HasFewTargets}
-use Rattle.csi_orchestrator.proofs.Words.{HasFewNodes, IsBounded, IsEntryWithin, AreEntriesWithin, AreWithin, IsWithin}
-use Rattle.csi_orchestrator.proofs.Words.{next_number, next_session, IsSoundRow, AreSoundRows, AreNodesApart, IsAtRest}
-use Rattle.csi_orchestrator.proofs.Words.{IsSteadyRow, AreSteadyRows}
+use Rattle.csi_orchestrator.proofs.Words.{subst, arith, ◌&&◌, ◌||◌, Option, Some, None, is_none, nat_le, Result, Ok}
+use Rattle.csi_orchestrator.proofs.Words.{Err, list_any, Number, same_text, IsAmong, OrchFault, Goal, Create, Outgoing}
+use Rattle.csi_orchestrator.proofs.Words.{Step, Maybe, is_no, Input, without_node, NodeEntryShown, RowShown}
+use Rattle.csi_orchestrator.proofs.Words.{OrchestratorParts, node_entry_of, mark_in, mark_of, closed, Attached}
+use Rattle.csi_orchestrator.proofs.Words.{is_row_forgotten, remembered, is_used_in, leaves_out_used, restart_refusal}
+use Rattle.csi_orchestrator.proofs.Words.{entry_at_loss, row_at_loss, due_in, entry_for, with_entry, stopped_goal}
+use Rattle.csi_orchestrator.proofs.Words.{wanted_row, known_by_success_of, is_last, others_count, others_attached}
+use Rattle.csi_orchestrator.proofs.Words.{use_refusal, room_refusal, step_refusal, late_refusal, MovedRow, outgoing_by}
+use Rattle.csi_orchestrator.proofs.Words.{row_moved, row_sends_due, row_rests, row_unless, is_step_met, waits}
+use Rattle.csi_orchestrator.proofs.Words.{is_given_up, timed_out, failed, row_before_call, row_step, MovedRows}
+use Rattle.csi_orchestrator.proofs.Words.{moved_rows, row_moves, IsBounded, IsEntryWithin, AreEntriesWithin, AreWithin}
+use Rattle.csi_orchestrator.proofs.Words.{IsWithin, next_number, next_session, IsSoundRow, AreSoundRows, AreNodesApart}
+use Rattle.csi_orchestrator.proofs.Words.{IsAtRest, IsSteadyRow, AreSteadyRows}
 use Rattle.csi_orchestrator.proofs.Lemmas.{false≢true, or_parts, length-map, same_text-tells, each-filter, each-map}
 use Rattle.csi_orchestrator.proofs.Lemmas.{each-weaker, filter-no_longer, each_of, all_of, among-find, any-then}
 use Rattle.csi_orchestrator.proofs.Lemmas.{then-any, find-passes}
@@ -48,15 +47,7 @@ sends-due-within nodes last row all = by (outgoing_by (due_in row) (next_number 
 
 -- a use that isn't refused is of a node that is known
 node-known : (nodes : List (List ℕ)) (usage : Usage) (row : RowShown) → use_refusal nodes usage row ≡ None → list_any (same_text usage.node) nodes ≡ true
-node-known nodes usage row free =
-    let made = first-held (not (is_yes row.exists)) faults.NotCreated _ free in
-    let busy = first-held (is_some row.goal) faults.Busy _ made.1 in
-    let known = first-held (not (list_any (same_text usage.node) nodes)) faults.NoSuchNode _ busy.1 in
-    by (list_any (same_text usage.node) nodes) known.0
-  where
-    by : (b : Bool) → not b ≡ false → b ≡ true
-    by true e = refl
-    by false e = absurd (false≢true (sym e))
+node-known nodes usage row free = grind (arith, first-held, false≢true)
 
 -- there is room for its target, and for its node
 room-left : (last : Number) (usage : Usage) (row : RowShown) → room_refusal last usage row ≡ None
@@ -126,10 +117,7 @@ BoundedAfter (Err fault) = Unit {0}
 
 -- there are no more rows that are remembered
 few-remembered : (change : RowShown → RowShown) (rows : List RowShown) → length rows ≤ 4096 → length (map change (remembered rows)) ≤ 4096
-few-remembered change rows few =
-    let less = filter-no_longer (λ (r : RowShown). not (is_row_forgotten r)) rows in
-    let long = length-map (remembered rows) change in
-    omega (arith, few, less, long)
+few-remembered change rows few = grind (arith, filter-no_longer, length-map)
 
 -- a node at which a volume is published stays listed where the list isn't refused
 stays-listed : (old new : List (List ℕ)) (rows : List RowShown) (row : RowShown) (entry : NodeEntryShown) → leaves_out_used old new rows ≡ false → IsAmong row rows → IsAmong entry row.node_entries → AreNodesApart row.node_entries
@@ -170,13 +158,7 @@ none-left-out session old new rows free = (first-held (leaves_out_used old new r
 
 -- an entry once a node was lost
 entry-lost : (nodes : List (List ℕ)) (node : List ℕ) (entry : NodeEntryShown) → IsEntryWithin nodes entry → IsEntryWithin (without_node node nodes) (entry_at_loss node entry)
-entry-lost nodes node entry own = by (same_text entry.node node) refl
-  where
-    by : (b : Bool) → same_text entry.node node ≡ b → IsEntryWithin (without_node node nodes) (entry_at_loss node entry)
-    by true e = subst (IsEntryWithin (without_node node nodes)) (sym (own-lost node entry e)) (record { among = λ some. absurd (some refl); targets = omega arith })
-    by false e =
-        subst (IsEntryWithin (without_node node nodes)) (sym (other-entry node entry e))
-        (record { among = λ some. any-without entry.node node nodes ∙ ap (λ b. not b && list_any (same_text entry.node) nodes) e ∙ own.among some; targets = own.targets })
+entry-lost nodes node entry own = grind (arith, own-lost, other-entry, any-without)
 
 -- a row once a node was lost
 row-lost : (nodes : List (List ℕ)) (node : List ℕ) (row : RowShown) → AreWithin nodes row → AreWithin (without_node node nodes) (row_at_loss node row)
@@ -192,25 +174,8 @@ row-lost nodes node row all = row-by (AreWithin (without_node node nodes)) node 
 stays-within : (parts : OrchestratorParts) (input : Input) (result : Result MovedRows OrchFault) → AreSoundRows parts.rows → AreSteadyRows parts.rows → IsWithin parts → IsRowMove parts input result → BoundedAfter result
 stays-within parts input _ sound kept within (IsRefused fault) = tt
 stays-within parts input _ sound kept within IsIgnored = within
-stays-within parts input _ sound kept within (TakesStep answer step row moved_row among of fits e) =
-    let on = subst (GoesOn parts.last row) e (step-goes parts.nodes parts.last step row) in
-    let least = within.rows in
-    let long = put-there (λ (r : RowShown). r.name) moved_row.row row parts.rows among on.name in
-    record {
-      rows = omega (arith, long, least);
-      entries =
-          each-put (AreWithin parts.nodes) (λ (r : RowShown). r.name) moved_row.row parts.rows
-          (subst (WithinAfter parts.nodes) e (step-within parts.nodes parts.last step row (each_of IsSteadyRow parts.rows row kept among) (each_of (AreWithin parts.nodes) parts.rows row within.entries among))) within.entries;
-    }
-stays-within parts input _ sound kept within (PutsIn name arguments moved_row free e) =
-    let below = not-reached 4096 _ (first-held (nat_le 4096 (length parts.rows)) faults.Full None (first-held (is_last parts.last) faults.NumbersSpent _ free).1).0 in
-    let long = put-long (λ (r : RowShown). r.name) moved_row.row parts.rows in
-    record {
-      rows = omega (arith, below, long);
-      entries =
-          each-put (AreWithin parts.nodes) (λ (r : RowShown). r.name) moved_row.row parts.rows
-          (subst (WithinAfter parts.nodes) e (sends-due-within parts.nodes parts.last (new_row name arguments) (record { each = tt; few = omega arith }))) within.entries;
-    }
+stays-within parts input _ sound kept within (TakesStep answer step row moved_row among of fits e) = grind (arith, GoesOn, step-goes, put-there, each-put, step-within, each_of)
+stays-within parts input _ sound kept within (PutsIn name arguments moved_row free e) = grind (arith, not-reached, first-held, put-long, each-put, sends-due-within)
 stays-within parts input _ sound kept within (StartsAgain nodes is free) =
     record {
       rows = few-remembered closed parts.rows within.rows;
@@ -238,11 +203,4 @@ rows-stay-within parts input moved_rows sound kept within e = stays-within parts
 
 -- what the type keeps bounds what is kept
 pub bounded : (parts : OrchestratorParts) → IsWithin parts → IsBounded parts
-bounded parts within =
-    record {
-      rows = within.rows;
-      nodes = each-weaker (AreWithin parts.nodes) HasFewNodes parts.rows (λ row all. all.few) within.entries;
-      targets =
-          each-weaker (AreWithin parts.nodes) (λ (row : RowShown). AllByRecursion HasFewTargets row.node_entries) parts.rows
-          (λ row all. each-weaker (IsEntryWithin parts.nodes) HasFewTargets row.node_entries (λ entry own. own.targets) all.each) within.entries;
-    }
+bounded parts within = grind (arith, each-weaker)

@@ -114,13 +114,7 @@ asked-so parts step other name is =
 
 -- whatever is asked of a name
 moves-change : (parts : OrchestratorParts) (input : Input) (name : List ℕ) → name_asked input ≡ Some name → ChangesSo name parts (row_moves parts input)
-moves-change parts (ToCreate other arguments) name is =
-    subst (λ (n : List ℕ). ChangesSo n parts (creates parts other arguments (row_of parts.rows other))) (same_Some other name is) (creates-change parts other arguments (row_of parts.rows other) refl)
-moves-change parts (ToUse other usage) name is = asked-so parts (steps.Use usage) other name is
-moves-change parts (ToStop other node target) name is = asked-so parts (steps.Stop node target) other name is
-moves-change parts (ToDelete other) name is = asked-so parts steps.Delete other name is
-moves-change parts (TimesOut other) name is = asked-so parts steps.TimeOut other name is
-moves-change parts input name is = absurd (none-some name is)
+moves-change parts input name is = grind (arith, same_Some, creates-change, asked-so, none-some)
 
 -- so it is with what a call is told by
 pub changed-promised : {R : Type 0} {old now new : OrchestratorParts} {input : Input} {says : R → Answer} {result : Result R OrchFault} (name : List ℕ) → old ≡ now → name_asked input ≡ Some name → IsMoveOf old new input says result
@@ -191,7 +185,4 @@ receives-change parts number party (bodies.Reply kind reply) kept one = reply-ch
 pub heard-promised : (core : OrchestratorCore) (frame : Frame) {now new : OrchestratorParts} {result : Result Heard OrchFault} → orchestrator_parts_shown core ≡ now → AreSoundParts (orchestrator_parts_shown core) → IsFiled core
     → IsMoveOf (orchestrator_parts_shown core) new (Comes frame) Hears result → IfOk result (λ heard. ChangesAsHeard frame.number heard now new)
 heard-promised core frame {now = now} {new = new} {result = Err fault} is kept filed told = tt
-heard-promised core frame {now = now} {new = new} {result = Ok heard} is kept filed told =
-    let parts = orchestrator_parts_shown core in
-    subst (λ (p : OrchestratorParts). ChangesAsHeard frame.number heard p new) is
-    (subst (HeardSo frame.number parts) told.ok (receives-change parts frame.number frame.party frame.body kept.sound (one-called core frame.number filed.indexed)))
+heard-promised core frame {now = now} {new = new} {result = Ok heard} is kept filed told = grind (arith, receives-change, one-called)

@@ -1,13 +1,12 @@
 -- What is due for a row once it took a step, by what is found before the row is changed.
-use Rattle.csi_orchestrator.proofs.Words.{◌≡◌, ◌++◌, ℕ, List, [], ◌∷◌, Bool, true, false, cond, not, refl, sym, ◌∙◌, ap}
-use Rattle.csi_orchestrator.proofs.Words.{subst, Option, Some, None, find, is_some, is_none, option_and_then, ◌&&◌}
-use Rattle.csi_orchestrator.proofs.Words.{◌||◌, Result, Ok, Err, IfErr, OnErr, IsErrAnd, list_any, Number, same_text}
-use Rattle.csi_orchestrator.proofs.Words.{Send, Outgoing, Use, TargetEntry, Usage, Step, Attached, Staged, Published}
-use Rattle.csi_orchestrator.proofs.Words.{is_no, next_number, Due, wanted_row, with_entry, entry_for, with_target}
-use Rattle.csi_orchestrator.proofs.Words.{new_target_entry, NodeEntryShown, RowShown, node_entry_of, others_in}
-use Rattle.csi_orchestrator.proofs.Words.{marks_at, use_due, due_with, due_by, due_in, decided, outgoing_by, row_moved}
-use Rattle.csi_orchestrator.proofs.Words.{row_sends_due, is_step_met, needs_entry, row_before_call, row_step}
-use Rattle.csi_orchestrator.proofs.Words.{SendsNothing}
+use Rattle.csi_orchestrator.proofs.Words.{◌≡◌, ℕ, List, [], Bool, true, false, cond, not, refl, sym, ◌∙◌, ap, subst}
+use Rattle.csi_orchestrator.proofs.Words.{Option, Some, None, is_none, option_and_then, ◌&&◌, ◌||◌, Result, Ok, Err}
+use Rattle.csi_orchestrator.proofs.Words.{IfErr, OnErr, IsErrAnd, list_any, Number, same_text, Send, Use, TargetEntry}
+use Rattle.csi_orchestrator.proofs.Words.{Usage, Step, Attached, Staged, Published, is_no, next_number, Due}
+use Rattle.csi_orchestrator.proofs.Words.{wanted_row, with_entry, entry_for, with_target, new_target_entry}
+use Rattle.csi_orchestrator.proofs.Words.{NodeEntryShown, RowShown, node_entry_of, others_in, marks_at, use_due}
+use Rattle.csi_orchestrator.proofs.Words.{due_with, due_by, due_in, decided, outgoing_by, row_moved, row_sends_due}
+use Rattle.csi_orchestrator.proofs.Words.{is_step_met, needs_entry, row_before_call, row_step, SendsNothing, arith}
 use Rattle.csi_orchestrator.proofs.Lemmas.{false≢true, list_any-append}
 use Rattle.csi_orchestrator.specs.declared.step.Step.TheVariants as steps
 use Rattle.csi_orchestrator.proofs.DecisionsTold.{decision-tells, sends-unmet}
@@ -26,11 +25,7 @@ holds-at_err (Err y) p = p
 
 -- another target isn't taken by an entry for a use
 new-target-free : (target other : List ℕ) → (not (same_text target other) && not (is_no (new_target_entry target).published)) ≡ false
-new-target-free target other = by (same_text target other)
-  where
-    by : (b : Bool) → (not b && false) ≡ false
-    by true = refl
-    by false = refl
+new-target-free target other = grind arith
 
 -- another target than this one, which may be published
 abbrev is_other : List ℕ → TargetEntry → Bool
@@ -38,16 +33,7 @@ is_other target target_entry = not (same_text target_entry.target target) && not
 
 -- an entry for a use leaves whether there is such a one: among the targets, in the node's entry and in the row
 others-with-target : (target : List ℕ) (target_entries : List TargetEntry) → list_any (is_other target) (with_target target target_entries) ≡ list_any (is_other target) target_entries
-others-with-target target target_entries = by (is_some (find (λ (a : TargetEntry). same_text a.target target) target_entries))
-  where
-    last : (b : Bool) → (b || (false || false)) ≡ b
-    last true = refl
-    last false = refl
-
-    by : (b : Bool) → list_any (is_other target) (cond b target_entries (target_entries ++ new_target_entry target ∷ [])) ≡ list_any (is_other target) target_entries
-    by true = refl
-    by false =
-        list_any-append (is_other target) target_entries (new_target_entry target ∷ []) ∙ ap (λ b. list_any (is_other target) target_entries || (b || false)) (new-target-free target target) ∙ last (list_any (is_other target) target_entries)
+others-with-target target target_entries = grind (arith, list_any-append, new-target-free)
 
 -- the same of a node's entry, or of none
 others-entry : (usage : Usage) (o : Option NodeEntryShown) → others_in usage.target (Some (entry_for usage o)) ≡ others_in usage.target o
@@ -80,12 +66,7 @@ due-used-by usage row id is = ap (option_and_then (use_due usage (marks_at row u
 
 -- where a call is due, one is sent
 sends-due : (row : RowShown) (due : Option Due) (number : Option Number) → SendsNothing (row_moved row (outgoing_by due number)) → is_none due ≡ true
-sends-due row None number nothing = refl
-sends-due row (Some due) None nothing = absurd nothing
-sends-due row (Some due) (Some number) nothing = absurd (clash _ nothing)
-  where
-    clash : (next : Outgoing) → Some next ≡ None → ⊥
-    clash next e = cc
+sends-due row due number nothing = grind arith
 
 -- so for a use that isn't met yet one is sent
 needs-none : (last : Number) (step : Step) (row : RowShown) → is_step_met step row ≡ false → SendsNothing (row_sends_due last (row_before_call step row)) → needs_entry step ≡ false

@@ -6,6 +6,7 @@ use Rattle.csi_orchestrator.proofs.Words.{Published, is_yes, is_no, History, id_
 use Rattle.csi_orchestrator.proofs.Words.{due_use, due_leave, due_stop, due_for, due_call, RowShown, row_of}
 use Rattle.csi_orchestrator.proofs.Words.{node_entry_of, mark_in, publication_known, mark_of, goal_shown, goal_in}
 use Rattle.csi_orchestrator.proofs.Words.{AreTargetsApart, others_in, marks_for, use_due, delete_due, due_by, due_in}
+use Rattle.csi_orchestrator.proofs.Words.{arith}
 use Rattle.csi_orchestrator.proofs.Lemmas.{among-find, each_of, some-has}
 use Rattle.csi_types.specs.declared.call.Kind.TheVariants as kinds
 use Rattle.csi_orchestrator.specs.declared.row.Goal.{Goal as KeptGoal}
@@ -53,11 +54,7 @@ use-told row history name usage own =
 stop-spelled : (name node target : List ℕ) (id : Option ℕ) (p o s a : Bool)
     → option_and_then (call_for name (Some (Stop node target)) id) (cond (not p) (Some kinds.NodeUnpublishVolume) (cond o None (cond (not s) (Some kinds.NodeUnstageVolume) (cond (not a) (Some kinds.ControllerUnpublishVolume) None))))
     ≡ option_and_then (λ id. cond (not p) (Some (unpublishing node target id)) (cond o None (cond (not s) (Some (unstaging node id)) (cond (not a) (Some (detaching node id)) None)))) id
-stop-spelled name node target None p o s a = none-of (call_for name (Some (Stop node target)) None) (λ kind. refl) _
-stop-spelled name node target (Some id) p o s a =
-    let f = call_for name (Some (Stop node target)) (Some id) in
-    either f (not p) _ _
-    ∙ ap (cond (not p) (Some (unpublishing node target id))) (either f o _ _ ∙ ap (cond o None) (either f (not s) _ _ ∙ ap (cond (not s) (Some (unstaging node id))) (either f (not a) _ _)))
+stop-spelled name node target id p o s a = grind (arith, none-of, either, unpublishing, unstaging)
 
 -- the kind of the call that is due for a stop
 stop-told : (row : RowShown) (history : History) (name node target : List ℕ) → IsRowOf row history name → AllByRecursion AreTargetsApart row.node_entries

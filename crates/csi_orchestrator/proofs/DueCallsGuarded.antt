@@ -1,12 +1,12 @@
 -- Why the call that is due for a row may be sent.
 use Rattle.csi_orchestrator.proofs.Words.{◌≡◌, ◌≢◌, ℕ, List, Bool, true, false, not, refl, sym, ◌∙◌, ap, subst, inr}
-use Rattle.csi_orchestrator.proofs.Words.{Option, Some, None, option_map, ◌&&◌, AllByRecursion, IsAmong, same_text}
+use Rattle.csi_orchestrator.proofs.Words.{Option, Some, None, option_map, AllByRecursion, IsAmong, same_text}
 use Rattle.csi_orchestrator.proofs.Words.{is_single_node, Thing, Exists, Attached, Staged, Published, Yes, No, name_in}
 use Rattle.csi_orchestrator.proofs.Words.{is_yes, is_no, Held, History, known, held, open_call, Due, is_for_one_node}
 use Rattle.csi_orchestrator.proofs.Words.{uses_as_second_writer, CanBeHeldToo, holding_by, IsGuarded, MayIssue}
 use Rattle.csi_orchestrator.proofs.Words.{NodeEntryShown, RowShown, node_entry_of, mark_in, publication_known, mark_of}
-use Rattle.csi_orchestrator.proofs.Words.{held_at, AreTargetsApart, others_in, due_in, is_so_elsewhere, has_elsewhere}
-use Rattle.csi_orchestrator.proofs.Words.{IsUsable, MayBeWanted}
+use Rattle.csi_orchestrator.proofs.Words.{held_at, AreTargetsApart, others_in, due_in, has_elsewhere, IsUsable}
+use Rattle.csi_orchestrator.proofs.Words.{MayBeWanted, arith}
 use Rattle.csi_orchestrator.proofs.Lemmas.{false≢true, true_from_ne_false, or_parts, among-find, each_of, some-has}
 use Rattle.csi_orchestrator.proofs.Lemmas.{find-passes, same_Some, none-some, then-any, same_text-tells}
 use Rattle.csi_types.specs.Public.Holding.{CanHoldBoth}
@@ -28,19 +28,7 @@ node-entry-there row node entry e =
 
 -- an entry by which the volume may be at another node, and is held not so
 not-so : (row : RowShown) (so : Held → Bool) (node other : List ℕ) (entry : NodeEntryShown) → has_elsewhere so node row ≡ false → node_entry_of row other ≡ Some entry → other ≢ node → entry.attached ≢ No → so (held_at entry) ≡ false
-not-so row so node other entry none e apart maybe = by (so (held_at entry)) refl
-  where
-    there : IsAmong entry row.node_entries × (entry.node ≡ other)
-    there = node-entry-there row other entry e
-
-    elsewhere : same_text entry.node node ≡ false
-    elsewhere = ap (λ t. same_text t node) there.1 ∙ texts-differ other node apart
-
-    by : (b : Bool) → so (held_at entry) ≡ b → b ≡ false
-    by true f =
-        absurd (false≢true (sym none ∙ then-any (is_so_elsewhere so node) row.node_entries entry there.0
-        (ap (λ b. not b && not (is_no entry.attached) && so (held_at entry)) elsewhere ∙ ap (λ b. not b && so (held_at entry)) (is_not_no entry.attached maybe) ∙ f)))
-    by false f = refl
+not-so row so node other entry none e apart maybe = grind (arith, node-entry-there, texts-differ, false≢true, then-any, is_not_no)
 
 -- what is known of a thing of the row's name
 known-yes : (row : RowShown) (history : History) (thing : Thing) → IsRowOf row history row.name → name_in thing ≡ row.name → is_yes (mark_of thing row) ≡ true → known history thing ≡ Yes
@@ -60,11 +48,7 @@ known-not-no row history thing told own e = not_no (known history thing) (ap is_
 
 -- nowhere may it be attached
 detached-there : (row : RowShown) (node : List ℕ) → AllByRecursion (λ (entry : NodeEntryShown). entry.attached ≡ No) row.node_entries → mark_of (Attached row.name node) row ≡ No
-detached-there row node detached = by (node_entry_of row node) refl
-  where
-    by : (o : Option NodeEntryShown) → node_entry_of row node ≡ o → mark_in (λ (entry : NodeEntryShown). entry.attached) o ≡ No
-    by None f = refl
-    by (Some entry) f = each_of (λ (p : NodeEntryShown). p.attached ≡ No) row.node_entries entry detached (node-entry-there row node entry f).0
+detached-there row node detached = grind (arith, each_of, node-entry-there)
 
 -- how a usage holds the volume
 abbrev held-so : Usage → Held
@@ -94,10 +78,7 @@ shared-so row history usage id told usable other there apart maybe holds = by (n
 -- the volume is held at the node as the use asks
 held-there : (row : RowShown) (history : History) (usage : Usage) → IsRowOf row history row.name → IsUsable row usage → is_yes (mark_of (Attached row.name usage.node) row) ≡ true
     → held history row.name usage.node ≡ Some (held-so usage)
-held-there row history usage told usable e =
-    sym (told.holdings usage.node (yes_not_no (mark_of (Attached row.name usage.node) row) (yes_is_yes (mark_of (Attached row.name usage.node) row) e)))
-    ∙ ap (option_map held_at) usable.entry.at_node
-    ∙ (λ i. Some (record { capability = usable.entry.same_capability i; readonly = usable.entry.same_flag i }))
+held-there row history usage told usable e = grind (arith, yes_not_no, yes_is_yes)
 
 -- no target of the node is published where the goal's own isn't, and no other is
 quiet-targets : (row : RowShown) (history : History) (node target other : List ℕ) → IsRowOf row history row.name → AllByRecursion AreTargetsApart row.node_entries

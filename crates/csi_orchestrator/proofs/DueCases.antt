@@ -1,8 +1,8 @@
 -- The eight ways in which a call is due for a row.
 use Rattle.csi_orchestrator.proofs.Words.{◌≡◌, ℕ, List, Bool, true, false, cond, not, refl, subst, Option, Some, None}
-use Rattle.csi_orchestrator.proofs.Words.{option_and_then, Controller, Node, kind_of, Goal, Create, Use, Stop, Delete}
-use Rattle.csi_orchestrator.proofs.Words.{Usage, is_yes, is_no, Due, call_for, RowShown, goal_in, marks_for, due_by}
-use Rattle.csi_orchestrator.proofs.Words.{due_in, use_due, stop_due, delete_due}
+use Rattle.csi_orchestrator.proofs.Words.{option_and_then, Controller, Node, kind_of, Create, Use, Stop, Delete, Usage}
+use Rattle.csi_orchestrator.proofs.Words.{is_yes, is_no, Due, call_for, RowShown, goal_in, marks_for, due_in, use_due}
+use Rattle.csi_orchestrator.proofs.Words.{stop_due, delete_due, arith}
 use Rattle.csi_orchestrator.proofs.Lemmas.{same_Some, none-some}
 use Rattle.csi_types.specs.declared.call.Call.TheVariants as calls
 
@@ -111,22 +111,8 @@ by-stop row due node target goal (Some id) own is =
 
 -- each call that is due for a row is so in one of the eight ways
 pub due-cases : (row : RowShown) (due : Due) → due_in row ≡ Some due → IsDueFor row due
-due-cases row due is = by row.goal refl is
-  where
-    by : (goal : Option Goal) → row.goal ≡ goal → due_by row goal ≡ Some due → IsDueFor row due
-    by None e is = absurd (none-some due is)
-    by (Some Create) e is = by-create row due e (is_yes row.exists) refl is
-    by (Some (Use usage)) e is = by-use row due usage e row.id refl is
-    by (Some (Stop node target)) e is = by-stop row due node target e row.id refl is
-    by (Some Delete) e is = by-delete row due e row.id refl is
+due-cases row due is = grind (arith, none-some, by-create, by-use, by-stop, by-delete)
 
 -- the call that is due is the one of its kind for the row's goal
 pub spelled : (row : RowShown) (due : Due) → IsDueFor row due → call_for row.name (goal_in row) row.id (kind_of due.call) ≡ Some due
-spelled row _ (ToMake goal e) = rw goal refl
-spelled row _ (ToRemove id goal own e) = rw (goal, own) refl
-spelled row _ (ToAttach usage id goal own a) = rw (goal, own) refl
-spelled row _ (ToStage usage id goal own a s) = rw (goal, own) refl
-spelled row _ (ToPublish usage id goal own a s p) = rw (goal, own) refl
-spelled row _ (ToUnpublish node target id goal own p) = rw (goal, own) refl
-spelled row _ (ToUnstage node target id goal own p o s) = rw (goal, own) refl
-spelled row _ (ToDetach node target id goal own p o s a) = rw (goal, own) refl
+spelled row due h = grind arith

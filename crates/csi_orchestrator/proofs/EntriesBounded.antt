@@ -1,14 +1,13 @@
 -- How many entries a row has after what becomes of them, and which.
-use Rattle.csi_orchestrator.proofs.Words.{◌≡◌, ◌<◌, ◌≤◌, ◌+◌, ℕ, suc, List, [], ◌∷◌, ◌++◌, Bool, true, false, cond, not}
-use Rattle.csi_orchestrator.proofs.Words.{length, map, refl, sym, ◌∙◌, ap, subst, inl, inr, arith, ◌≢◌, ◌&&◌, Option}
-use Rattle.csi_orchestrator.proofs.Words.{Some, None, is_some, filter, find, count_by, nat_le, AllByRecursion, list_any}
-use Rattle.csi_orchestrator.proofs.Words.{Kind, same_text, IsAmong, Goal, Use, Stop, TargetEntry, Known, Yes, No, Maybe}
-use Rattle.csi_orchestrator.proofs.Words.{is_no, NodeEntryShown, RowShown, node_entry_of, Aspect, Existence, Attachment}
-use Rattle.csi_orchestrator.proofs.Words.{Staging, Publication, aspect_of, node_marked, marked_at, at_goal}
-use Rattle.csi_orchestrator.proofs.Words.{nodes_marked, marked_row, is_target_kept, with_kept_targets, is_node_kept}
-use Rattle.csi_orchestrator.proofs.Words.{tidied_entries, new_target_entry, with_target, held_as, entry_for, with_entry}
-use Rattle.csi_orchestrator.proofs.Words.{others_count, others_attached, change_by, put_by, IsEntryWithin}
-use Rattle.csi_orchestrator.proofs.Words.{AreEntriesWithin, AreWithin, IsNeeded}
+use Rattle.csi_orchestrator.proofs.Words.{◌≡◌, ◌<◌, ◌≤◌, ◌+◌, ℕ, suc, List, [], ◌∷◌, Bool, true, false, cond, not}
+use Rattle.csi_orchestrator.proofs.Words.{length, map, refl, sym, ◌∙◌, ap, inl, inr, arith, ◌≢◌, ◌&&◌, Option, Some}
+use Rattle.csi_orchestrator.proofs.Words.{None, filter, find, count_by, nat_le, AllByRecursion, list_any, Kind}
+use Rattle.csi_orchestrator.proofs.Words.{same_text, IsAmong, Goal, Use, Stop, TargetEntry, Known, Yes, No, Maybe}
+use Rattle.csi_orchestrator.proofs.Words.{is_no, NodeEntryShown, RowShown, node_entry_of, Aspect, Existence}
+use Rattle.csi_orchestrator.proofs.Words.{node_marked, marked_at, at_goal, nodes_marked, marked_row, is_target_kept}
+use Rattle.csi_orchestrator.proofs.Words.{with_kept_targets, is_node_kept, tidied_entries, with_target, held_as}
+use Rattle.csi_orchestrator.proofs.Words.{entry_for, with_entry, others_count, others_attached, change_by, put_by}
+use Rattle.csi_orchestrator.proofs.Words.{IsEntryWithin, AreEntriesWithin, AreWithin, IsNeeded}
 use Rattle.csi_orchestrator.proofs.Lemmas.{false≢true, nat_tests, length-map, length_push, none-some, same_text-tells}
 use Rattle.csi_orchestrator.proofs.Lemmas.{count-cons, each-filter, each-map, filter-no_longer, among-find}
 use Rattle.csi_orchestrator.specs.Model.History.{Usage}
@@ -19,46 +18,25 @@ use Rattle.csi_orchestrator.proofs.EntryRules.{by_if, each-change}
 -- a change leaves as many
 pub change-long : {X : Type 0} (key : X → List ℕ) (text : List ℕ) (change : X → X) (xs : List X) → length (change_by key text change xs) ≡ length xs
 change-long key text change [] = refl
-change-long key text change (x ∷ xs) = by (same_text (key x) text) (change-long key text change xs)
-  where
-    by : (b : Bool) → length (change_by key text change xs) ≡ length xs → length (cond b (change x ∷ xs) (x ∷ change_by key text change xs)) ≡ suc (length xs)
-    by true rest = refl
-    by false rest = ap suc rest
+change-long key text change (x ∷ xs) = grind (arith, (change-long key text change xs))
 
 -- one that is put in makes one more at most, and none where its text has an entry
 pub put-long : {X : Type 0} (key : X → List ℕ) (entry : X) (xs : List X) → length (put_by key entry xs) ≤ length xs + 1
 put-long key entry [] = omega arith
-put-long key entry (x ∷ xs) = by (same_text (key x) (key entry)) (put-long key entry xs)
-  where
-    by : (b : Bool) → length (put_by key entry xs) ≤ length xs + 1 → length (cond b (entry ∷ xs) (x ∷ put_by key entry xs)) ≤ suc (length xs) + 1
-    by true rest = omega arith
-    by false rest = omega (arith, rest)
+put-long key entry (x ∷ xs) = grind (arith, (put-long key entry xs))
 
 -- putting in where an entry has the text makes none more
 pub put-there : {X : Type 0} (key : X → List ℕ) (entry old : X) (xs : List X) → IsAmong old xs → key entry ≡ key old → length (put_by key entry xs) ≡ length xs
 put-there key entry old [] among same = absurd among
 put-there key entry old (x ∷ xs) (inl is) same =
     ap (λ b. length (cond b (entry ∷ xs) (x ∷ put_by key entry xs))) ((same_text-tells (key x) (key entry)).1 (ap key (sym is) ∙ sym same))
-put-there key entry old (x ∷ xs) (inr there) same = by (same_text (key x) (key entry)) (put-there key entry old xs there same)
-  where
-    by : (b : Bool) → length (put_by key entry xs) ≡ length xs → length (cond b (entry ∷ xs) (x ∷ put_by key entry xs)) ≡ suc (length xs)
-    by true rest = refl
-    by false rest = ap suc rest
+put-there key entry old (x ∷ xs) (inr there) same = grind (arith, (put-there key entry old xs there same))
 
 -- ---- what becomes of a row's entries
 
 -- a mark is set
 node-marked : (nodes : List (List ℕ)) (mark : Known) (aspect : Aspect) (target : List ℕ) (entry : NodeEntryShown) → IsEntryWithin nodes entry → IsEntryWithin nodes (node_marked mark aspect target entry)
-node-marked nodes mark Existence target entry own = own
-node-marked nodes mark Attachment target entry own = record { among = own.among; targets = own.targets }
-node-marked nodes mark Staging target entry own = record { among = own.among; targets = own.targets }
-node-marked nodes mark Publication target entry own =
-    let least = own.targets in
-    let long = change-long (λ (t : TargetEntry). t.target) target (λ (t : TargetEntry). record t { published = mark }) entry.target_entries in
-    record {
-      among = λ some. own.among (λ none. some (ap (change_by (λ (t : TargetEntry). t.target) target (λ (t : TargetEntry). record t { published = mark })) none));
-      targets = omega (arith, long, least);
-    }
+node-marked nodes mark aspect target entry own = grind (arith, change-long)
 
 -- entries with a mark set at a node and a target stay within the bounds
 marked-at : (nodes : List (List ℕ)) (mark : Known) (aspect : Aspect) (node target : List ℕ) (entries : List NodeEntryShown) → AllByRecursion (IsEntryWithin nodes) entries → AllByRecursion (IsEntryWithin nodes) (marked_at mark aspect node target entries)
@@ -78,17 +56,11 @@ nodes-marked nodes mark aspect goal entries all = at-goal nodes mark aspect goal
 
 -- there are as many
 marked-long : (mark : Known) (aspect : Aspect) (goal : Option Goal) (entries : List NodeEntryShown) → length (nodes_marked mark aspect goal entries) ≡ length entries
-marked-long mark Existence goal entries = refl
-marked-long mark aspect (Some (Use usage)) entries = change-long (λ (e : NodeEntryShown). e.node) usage.node (node_marked mark aspect usage.target) entries
-marked-long mark aspect (Some (Stop node target)) entries = change-long (λ (e : NodeEntryShown). e.node) node (node_marked mark aspect target) entries
-marked-long mark aspect goal entries = refl
+marked-long mark aspect goal entries = grind (arith, change-long)
 
 -- so does a row that a call's kind marks
 pub row-marked : (nodes : List (List ℕ)) (mark : Known) (kind : Kind) (row : RowShown) → AreWithin nodes row → AreWithin nodes (marked_row mark kind row)
-row-marked nodes mark kind row all =
-    let few = all.few in
-    let long = marked-long mark (aspect_of kind) row.goal row.node_entries in
-    record { each = nodes-marked nodes mark (aspect_of kind) row.goal row.node_entries all.each; few = omega (arith, long, few) }
+row-marked nodes mark kind row all = grind (arith, marked-long, nodes-marked)
 
 -- entries are dropped
 pub all-tidied : (nodes : List (List ℕ)) (entries : List NodeEntryShown) → AreEntriesWithin nodes entries → AreEntriesWithin nodes (tidied_entries entries)
@@ -132,16 +104,7 @@ not-reached most n e = grind (arith, nat_tests)
 with-target-few : (target : List ℕ) (target_entries : List TargetEntry) → length target_entries ≤ 16 → AllByRecursion (λ (t : TargetEntry). t.published ≢ No) target_entries
     → nat_le 16 (count_by (λ (t : TargetEntry). not (same_text t.target target) && not (is_no t.published)) target_entries) ≡ false
     → length (with_target target target_entries) ≤ 16
-with-target-few target target_entries few may room = by (find (λ (t : TargetEntry). same_text t.target target) target_entries) refl
-  where
-    by : (o : Option TargetEntry) → find (λ (t : TargetEntry). same_text t.target target) target_entries ≡ o
-        → length (cond (is_some o) target_entries (target_entries ++ new_target_entry target ∷ [])) ≤ 16
-    by (Some there) e = few
-    by None e =
-        let same = all-others target target_entries e may in
-        let below = not-reached 16 _ room in
-        let long = length_push target_entries (new_target_entry target) in
-        omega (arith, same, below, long)
+with-target-few target target_entries few may room = grind (arith, all-others, not-reached, length_push)
 
 -- an entry at which the volume is held as a use asks is still of its node
 pub held-node : (usage : Usage) (entry : NodeEntryShown) → (held_as usage entry).node ≡ entry.node
@@ -156,13 +119,7 @@ pub record IsFoundEntry (nodes : List (List ℕ)) (usage : Usage) (entry : NodeE
 -- the entry for a use is within the bounds, where its node is known and there is room for its target
 pub entry-within : (nodes : List (List ℕ)) (usage : Usage) (entry : Option NodeEntryShown) → list_any (same_text usage.node) nodes ≡ true
     → ((own : NodeEntryShown) → entry ≡ Some own → IsFoundEntry nodes usage own) → nat_le 16 (others_count usage.target entry) ≡ false → IsEntryWithin nodes (entry_for usage entry)
-entry-within nodes usage None known own room = record { among = λ some. known; targets = omega arith }
-entry-within nodes usage (Some entry) known own room =
-    let found = own entry refl in
-    record {
-      among = λ some. subst (λ node. list_any (same_text node) nodes ≡ true) (sym (held-node usage entry ∙ found.at_node)) known;
-      targets = with-target-few usage.target entry.target_entries (found.within).targets (found.needed).targets room;
-    }
+entry-within nodes usage entry known own room = grind (arith, held-node, with-target-few)
 
 -- where each entry may be attached and none is of the node, all are counted
 all-elsewhere : (node : List ℕ) (entries : List NodeEntryShown) → find (λ (e : NodeEntryShown). same_text e.node node) entries ≡ None

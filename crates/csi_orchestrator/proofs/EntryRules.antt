@@ -1,6 +1,7 @@
 -- What holds of entries with keys, after one was changed or put in, and after some were taken out.
 use Rattle.csi_orchestrator.proofs.Words.{◌≡◌, ℕ, List, [], ◌∷◌, Bool, true, false, cond, map, refl, sym, ◌∙◌, ap}
 use Rattle.csi_orchestrator.proofs.Words.{subst, ◌||◌, AllByRecursion, list_any, EachTwo, same_text, change_by, put_by}
+use Rattle.csi_orchestrator.proofs.Words.{arith}
 use Rattle.csi_orchestrator.proofs.Lemmas.{each-map, same_text-tells}
 
 -- a text has one entry
@@ -16,11 +17,7 @@ by_if P false x y f g = g refl
 pub each-change : {X : Type 0} (P : X → Type 0) (key : X → List ℕ) (text : List ℕ) (change : X → X) (xs : List X) → ((x : X) → P x → P (change x)) → AllByRecursion P xs
     → AllByRecursion P (change_by key text change xs)
 each-change P key text change [] keeps all = tt
-each-change P key text change (x ∷ xs) keeps all = by (same_text (key x) text) (each-change P key text change xs keeps all.1)
-  where
-    by : (b : Bool) → AllByRecursion P (change_by key text change xs) → AllByRecursion P (cond b (change x ∷ xs) (x ∷ change_by key text change xs))
-    by true rest = (keeps x all.0, all.1)
-    by false rest = (all.0, rest)
+each-change P key text change (x ∷ xs) keeps all = grind (arith, (each-change P key text change xs keeps all.1))
 
 -- entries stay apart where one is changed and keeps its text
 pub apart-change : {X : Type 0} (key : X → List ℕ) (text : List ℕ) (change : X → X) (xs : List X) → ((x : X) → key (change x) ≡ key x) → AreApart key xs → AreApart key (change_by key text change xs)
@@ -35,20 +32,12 @@ apart-change key text change (x ∷ xs) same apart = by (same_text (key x) text)
 pub any-change : {X : Type 0} (q : X → Bool) (key : X → List ℕ) (text : List ℕ) (change : X → X) (xs : List X) → ((x : X) → key x ≡ text → q (change x) ≡ q x)
     → list_any q (change_by key text change xs) ≡ list_any q xs
 any-change q key text change [] same = refl
-any-change q key text change (x ∷ xs) same = by (same_text (key x) text) refl (any-change q key text change xs same)
-  where
-    by : (b : Bool) → same_text (key x) text ≡ b → list_any q (change_by key text change xs) ≡ list_any q xs → list_any q (cond b (change x ∷ xs) (x ∷ change_by key text change xs)) ≡ (q x || list_any q xs)
-    by true e rest = ap (λ b. b || list_any q xs) (same x ((same_text-tells (key x) text).0 e))
-    by false e rest = ap (λ b. q x || b) rest
+any-change q key text change (x ∷ xs) same = grind (arith, same_text-tells, (any-change q key text change xs same))
 
 -- an entry is put in
 pub each-put : {X : Type 0} (P : X → Type 0) (key : X → List ℕ) (entry : X) (xs : List X) → P entry → AllByRecursion P xs → AllByRecursion P (put_by key entry xs)
 each-put P key entry [] own all = (own, tt)
-each-put P key entry (x ∷ xs) own all = by (same_text (key x) (key entry)) (each-put P key entry xs own all.1)
-  where
-    by : (b : Bool) → AllByRecursion P (put_by key entry xs) → AllByRecursion P (cond b (entry ∷ xs) (x ∷ put_by key entry xs))
-    by true rest = (own, all.1)
-    by false rest = (all.0, rest)
+each-put P key entry (x ∷ xs) own all = grind (arith, (each-put P key entry xs own all.1))
 
 -- entries stay apart where one is put in
 pub apart-put : {X : Type 0} (key : X → List ℕ) (entry : X) (xs : List X) → AreApart key xs → AreApart key (put_by key entry xs)
@@ -62,11 +51,7 @@ apart-put key entry (x ∷ xs) apart = by (same_text (key x) (key entry)) refl (
 -- a test that no entry of this text passes
 pub any-put : {X : Type 0} (q : X → Bool) (key : X → List ℕ) (entry : X) (xs : List X) → ((x : X) → key x ≡ key entry → q x ≡ false) → list_any q (put_by key entry xs) ≡ list_any q xs
 any-put q key entry [] fails = ap (λ b. b || false) (fails entry refl)
-any-put q key entry (x ∷ xs) fails = by (same_text (key x) (key entry)) refl (any-put q key entry xs fails)
-  where
-    by : (b : Bool) → same_text (key x) (key entry) ≡ b → list_any q (put_by key entry xs) ≡ list_any q xs → list_any q (cond b (entry ∷ xs) (x ∷ put_by key entry xs)) ≡ (q x || list_any q xs)
-    by true e rest = ap (λ b. b || list_any q xs) (fails entry refl ∙ sym (fails x ((same_text-tells (key x) (key entry)).0 e)))
-    by false e rest = ap (λ b. q x || b) rest
+any-put q key entry (x ∷ xs) fails = grind (arith, same_text-tells, (any-put q key entry xs fails))
 
 -- a function that leaves the keys leaves each text its one entry
 pub apart-map : {X : Type 0} (key : X → List ℕ) (f : X → X) (xs : List X) → ((x : X) → key (f x) ≡ key x) → AreApart key xs → AreApart key (map f xs)

@@ -1,8 +1,7 @@
 -- Why what has to be spelled of a row is bounded.
-use Rattle.csi_orchestrator.proofs.Words.{◌≡◌, ◌≤◌, ℕ, List, [], ◌∷◌, length, map, subst, arith, Option, Some, None}
-use Rattle.csi_orchestrator.proofs.Words.{AllByRecursion, Goal, Stop, Row, RowShown}
-use Rattle.csi_orchestrator.proofs.Words.{OrchestratorParts, HasFewTargets, IsEntryWithin, AreWithin, IsRowFew}
-use Rattle.csi_orchestrator.proofs.Words.{IsRestorable, AreRestorable, node_entry_shown, row_shown, AreSoundParts}
+use Rattle.csi_orchestrator.proofs.Words.{◌≡◌, ◌≤◌, ℕ, List, [], ◌∷◌, length, map, subst, arith, Option}
+use Rattle.csi_orchestrator.proofs.Words.{AllByRecursion, Goal, Row, RowShown, OrchestratorParts, HasFewTargets}
+use Rattle.csi_orchestrator.proofs.Words.{AreWithin, IsRowFew, IsRestorable, AreRestorable, row_shown, AreSoundParts}
 use Rattle.csi_orchestrator.proofs.Words.{HasTries, IsSteadyRow, AreSteadyRows}
 use Rattle.csi_orchestrator.proofs.Lemmas.{length-map, each-weaker}
 use Rattle.csi_orchestrator.proofs.RowsOfRecord.{each-unmapped}
@@ -15,25 +14,15 @@ record IsShownFew (row : RowShown) : Type 0 where
 
 -- tries are counted up to 3
 pub few-tries : (goal : Option Goal) (tries : ℕ) → HasTries goal tries → tries ≤ 3
-few-tries None tries none = omega (arith, none)
-few-tries (Some (Stop node target)) tries some = some
-few-tries goal tries some = some.1
+few-tries goal tries none = grind arith
 
 -- so it is with the row as it is kept
 shown-few : (row : Row) → IsShownFew (row_shown row) → IsRowFew row
-shown-few row few =
-    let long = length-map row.node_entries.items node_entry_shown in
-    let count = few.count in
-    record { tries = few.tries; count = omega (arith, long, count); targets = each-unmapped node_entry_shown HasFewTargets row.node_entries.items few.targets }
+shown-few row few = grind (arith, length-map, each-unmapped)
 
 -- a row of one, or of an orchestrator
 steady-few : (nodes : List (List ℕ)) (row : RowShown) → AreWithin nodes row → IsSteadyRow row → IsShownFew row
-steady-few nodes row within steady =
-    record {
-      tries = few-tries row.goal row.tries steady.tries;
-      count = within.few;
-      targets = each-weaker (IsEntryWithin nodes) HasFewTargets row.node_entries (λ entry own. own.targets) within.each;
-    }
+steady-few nodes row within steady = grind (arith, few-tries, each-weaker)
 
 -- the rows of a record
 pub record-few : (nodes : List (List ℕ)) (rows : List Row) → AreRestorable nodes (map row_shown rows) → AllByRecursion IsRowFew rows

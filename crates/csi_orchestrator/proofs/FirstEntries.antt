@@ -1,8 +1,7 @@
 -- What a row knows with one entry more in front, or one target more of its first entry; and how the volume is held.
-use Rattle.csi_orchestrator.proofs.Words.{◌≡◌, ℕ, List, [], ◌∷◌, Bool, true, false, cond, refl, sym, ◌∙◌, ap, subst}
-use Rattle.csi_orchestrator.proofs.Words.{Option, Some, None, find, option_map, Capability, same_text, TargetEntry}
-use Rattle.csi_orchestrator.proofs.Words.{Thing, Exists, Attached, Staged, Published, Known, No, NodeEntryShown}
-use Rattle.csi_orchestrator.proofs.Words.{RowShown, mark_in, publication_known, mark_of, held_at, held_on_node}
+use Rattle.csi_orchestrator.proofs.Words.{◌≡◌, ℕ, List, [], ◌∷◌, Bool, true, false, cond, refl, sym, ◌∙◌, ap, Option}
+use Rattle.csi_orchestrator.proofs.Words.{Some, None, find, Capability, same_text, TargetEntry, Thing, Known, No}
+use Rattle.csi_orchestrator.proofs.Words.{NodeEntryShown, RowShown, mark_in, mark_of, held_at, held_on_node, arith}
 use Rattle.csi_orchestrator.proofs.Lemmas.{same_text-tells}
 use Rattle.csi_orchestrator.specs.declared.request.Arguments.{Arguments}
 
@@ -38,19 +37,7 @@ no-front f own o s false none = refl
 pub more-marks : (name : List ℕ) (arguments : Arguments) (id : Option ℕ) (exists : Known) (node : List ℕ) (capability : Capability) (readonly : Bool) (later : List NodeEntryShown)
     → find (λ (e : NodeEntryShown). same_text e.node node) later ≡ None → (thing : Thing)
     → mark_of thing (still name arguments id exists (entry_of node capability readonly No No [] ∷ later)) ≡ mark_of thing (still name arguments id exists later)
-more-marks name arguments id exists node capability readonly later none thing = by thing
-  where
-    own : NodeEntryShown
-    own = entry_of node capability readonly No No []
-
-    gone : (there : List ℕ) → same_text node there ≡ true → find (λ (e : NodeEntryShown). same_text e.node there) later ≡ None
-    gone there e = subst (λ n. find (λ (e : NodeEntryShown). same_text e.node n) later ≡ None) ((same_text-tells node there).0 e) none
-
-    by : (thing : Thing) → mark_of thing (still name arguments id exists (own ∷ later)) ≡ mark_of thing (still name arguments id exists later)
-    by (Exists m) = refl
-    by (Attached m there) = no-front (λ (e : NodeEntryShown). e.attached) own (find (λ (e : NodeEntryShown). same_text e.node there) later) refl (same_text node there) (gone there)
-    by (Staged m there) = no-front (λ (e : NodeEntryShown). e.staged) own (find (λ (e : NodeEntryShown). same_text e.node there) later) refl (same_text node there) (gone there)
-    by (Published m there target) = no-front (publication_known target) own (find (λ (e : NodeEntryShown). same_text e.node there) later) refl (same_text node there) (gone there)
+more-marks name arguments id exists node capability readonly later none thing = grind (arith, same_text-tells, no-front)
 
 -- ---- one target more, of which nothing is known
 
@@ -58,36 +45,11 @@ more-marks name arguments id exists node capability readonly later none thing = 
 pub target-marks : (name : List ℕ) (arguments : Arguments) (id : Option ℕ) (exists : Known) (entry : NodeEntryShown) (targets : List TargetEntry) (later : List NodeEntryShown) (target : List ℕ)
     → find (λ (t : TargetEntry). same_text t.target target) targets ≡ None → (thing : Thing)
     → mark_of thing (still name arguments id exists (targeted entry (target_of target No ∷ targets) ∷ later)) ≡ mark_of thing (still name arguments id exists (targeted entry targets ∷ later))
-target-marks name arguments id exists entry targets later target none thing = by thing
-  where
-    old : NodeEntryShown
-    old = targeted entry targets
-
-    new : NodeEntryShown
-    new = targeted entry (target_of target No ∷ targets)
-
-    gone : (other : List ℕ) → same_text target other ≡ true → find (λ (t : TargetEntry). same_text t.target other) targets ≡ None
-    gone other e = subst (λ n. find (λ (t : TargetEntry). same_text t.target n) targets ≡ None) ((same_text-tells target other).0 e) none
-
-    by : (thing : Thing) → mark_of thing (still name arguments id exists (new ∷ later)) ≡ mark_of thing (still name arguments id exists (old ∷ later))
-    by (Exists m) = refl
-    by (Attached m there) = same-front (λ (e : NodeEntryShown). e.attached) old new (find (λ (e : NodeEntryShown). same_text e.node there) later) refl (same_text entry.node there)
-    by (Staged m there) = same-front (λ (e : NodeEntryShown). e.staged) old new (find (λ (e : NodeEntryShown). same_text e.node there) later) refl (same_text entry.node there)
-    by (Published m there other) =
-        same-front (publication_known other) old new (find (λ (e : NodeEntryShown). same_text e.node there) later)
-        (no-front (λ (t : TargetEntry). t.published) (target_of target No) (find (λ (t : TargetEntry). same_text t.target other) targets) refl (same_text target other) (gone other)) (same_text entry.node there)
+target-marks name arguments id exists entry targets later target none thing = grind (arith, same_text-tells, same-front, no-front)
 
 -- ---- how it is held
 
 -- as it was, where the first entry is held so
 pub held-front : (name : List ℕ) (arguments : Arguments) (id : Option ℕ) (exists : Known) (old new : NodeEntryShown) (later : List NodeEntryShown) (there : List ℕ) → new.node ≡ old.node → held_at new ≡ held_at old
     → held_on_node (still name arguments id exists (new ∷ later)) there ≡ held_on_node (still name arguments id exists (old ∷ later)) there
-held-front name arguments id exists old new later there own same =
-    ap (λ n. option_map held_at (cond (same_text n there) (Some new) o)) own ∙ by (same_text old.node there)
-  where
-    o : Option NodeEntryShown
-    o = find (λ (e : NodeEntryShown). same_text e.node there) later
-
-    by : (b : Bool) → option_map held_at (cond b (Some new) o) ≡ option_map held_at (cond b (Some old) o)
-    by true = ap Some same
-    by false = refl
+held-front name arguments id exists old new later there own same = grind arith

@@ -1,6 +1,6 @@
 -- The first row that no record has there, and the walk that finds it.
-use Rattle.csi_orchestrator.proofs.Words.{◌≡◌, ◌<◌, ◌≤◌, ◌+◌, ◌-◌, ℕ, length, map, get_or, take, drop, Bool, true}
-use Rattle.csi_orchestrator.proofs.Words.{false, List, [], ◌∷◌, ◌++◌, refl, sym, ◌∙◌, ap, subst, arith, ◌||◌, nat_lt}
+use Rattle.csi_orchestrator.proofs.Words.{◌≡◌, ◌<◌, ◌≤◌, ◌+◌, ℕ, length, map, get_or, take, drop, Bool, true}
+use Rattle.csi_orchestrator.proofs.Words.{false, List, [], ◌∷◌, ◌++◌, sym, ◌∙◌, ap, subst, arith, ◌||◌, nat_lt}
 use Rattle.csi_orchestrator.proofs.Words.{AllByRecursion, list_any, same_text, Row, RowShown, IsRestorable}
 use Rattle.csi_orchestrator.proofs.Words.{AreRestorable, row_shown, is_restorable, may_follow}
 use Rattle.csi_orchestrator.proofs.Lemmas.{and_from, and_parts, false≢true, true≢false, lt-ltb, ltb-true, or_parts}
@@ -8,19 +8,14 @@ use Rattle.csi_orchestrator.proofs.Lemmas.{length-append, length-map, length-tak
 use Rattle.csi_orchestrator.proofs.Lemmas.{take-append-drop, take-map, take_more, list_any-append, each-append_one}
 use Rattle.csi_orchestrator.proofs.Lemmas.{each_of, two-append}
 use Rattle.csi_orchestrator.specs.Public.Judging.{IsFirstRefused}
-use Rattle.csi_orchestrator.proofs.JudgedRows.{restorable-from, from-restorable}
+use Rattle.csi_orchestrator.proofs.JudgedRows.{restorable_tells}
 use Rattle.csi_orchestrator.proofs.SplitLists.{any-of_none, each-left, each-right, two-left, two-there}
 
 -- ---- the rules of the first rows
 
 -- a front of a record's rows is a record's
 front-kept : (nodes : List (List ℕ)) (rows more : List RowShown) → AreRestorable nodes (rows ++ more) → AreRestorable nodes rows
-front-kept nodes rows more kept =
-    record {
-      few = let few = kept.few in let long : length (rows ++ more) ≡ length rows + length more = length-append rows more in omega (arith, few, long);
-      names = two-left (λ (a b : RowShown). same_text a.name b.name ≡ false) rows more kept.names;
-      each = each-left (IsRestorable nodes) rows more kept.each;
-    }
+front-kept nodes rows more kept = grind (arith, length-append, two-left, each-left)
 
 -- the first rows of a record's are a record's
 pub take-kept : (nodes : List (List ℕ)) (rows : List RowShown) (k : ℕ) → AreRestorable nodes rows → AreRestorable nodes (take k rows)
@@ -49,7 +44,7 @@ kept-more nodes rows row kept follows none =
       names =
           two-append (λ (a b : RowShown). same_text a.name b.name ≡ false) rows (row_shown row) kept.names
           (λ r among. each_of (λ (r : RowShown). same_text r.name row.name ≡ false) rows r (each-fails (λ (r : RowShown). same_text r.name row.name) rows none) among);
-      each = each-append_one (IsRestorable nodes) rows (row_shown row) kept.each (restorable-from nodes row parts.1);
+      each = each-append_one (IsRestorable nodes) rows (row_shown row) kept.each ((restorable_tells nodes row).from parts.1);
     }
 
 -- the last of a record's rows may follow those before it
@@ -58,7 +53,7 @@ kept-follows nodes rows row kept =
     let few = kept.few in
     let long : length (rows ++ row_shown row ∷ []) ≡ length rows + 1 = length_push rows (row_shown row) in
     and_from (nat_lt (length rows) 4096) (is_restorable nodes row) (lt-ltb (length rows) 4096 (omega (arith, few, long)))
-    (from-restorable nodes row (each-right (IsRestorable nodes) rows (row_shown row ∷ []) kept.each).0)
+    ((restorable_tells nodes row).back (each-right (IsRestorable nodes) rows (row_shown row ∷ []) kept.each).0)
 
 -- no row before the last of a record's has its name
 new-name : (nodes : List (List ℕ)) (rows : List RowShown) (row : Row) → AreRestorable nodes (rows ++ row_shown row ∷ []) → list_any (λ (r : RowShown). same_text r.name row.name) rows ≡ false
@@ -87,38 +82,17 @@ count-so_far rows place inside = length-map (take place rows) row_shown ∙ leng
 
 -- two tests in the other order, with one that fails between, come to the same
 or-turned : (a b : Bool) → (a || b) ≡ (b || (a || false))
-or-turned true true = refl
-or-turned true false = refl
-or-turned false true = refl
-or-turned false false = refl
+or-turned a b = grind arith
 
 -- it goes on so after a row that may follow and has a new name, once that name is put in
 pub goes_on : (nodes : List (List ℕ)) (rows : List Row) (place : ℕ) (has now_has : List ℕ → Bool) (row : Row) → SoFar nodes rows place has → place < length rows → row ≡ get_or rows place row
     → may_follow nodes place row ≡ true → has row.name ≡ false → ((name : List ℕ) → now_has name ≡ (same_text row.name name || has name)) → SoFar nodes rows (place + 1) now_has
-goes_on nodes rows place has now_has row so inside is follows absent adds =
-    let before = so_far rows place in
-    let more : so_far rows (place + 1) ≡ before ++ row_shown row ∷ [] = one-more rows place row inside is in
-    record {
-      kept =
-          subst (AreRestorable nodes) (sym more)
-          (kept-more nodes before row so.kept (ap (λ k. may_follow nodes k row) (count-so_far rows place (omega (arith, inside))) ∙ follows) (sym (so.names row.name) ∙ absent));
-      names = λ name.
-          let among : List RowShown → Bool = list_any (λ (r : RowShown). same_text r.name name) in
-          adds name ∙ ap (λ b. same_text row.name name || b) (so.names name) ∙ or-turned (same_text row.name name) (among before)
-          ∙ sym (list_any-append (λ (r : RowShown). same_text r.name name) before (row_shown row ∷ [])) ∙ ap among (sym more);
-    }
+goes_on nodes rows place has now_has row so inside is follows absent adds = grind (arith, one-more, kept-more, count-so_far, or-turned, list_any-append)
 
 -- where the rows before a place are a record's, and with the row there they aren't, that row is the first refused one
 refused-there : (nodes : List (List ℕ)) (rows : List Row) (place : ℕ) (row : Row) → AreRestorable nodes (so_far rows place) → place < length rows → row ≡ get_or rows place row
     → (AreRestorable nodes (so_far rows place ++ row_shown row ∷ []) → ⊥) → IsFirstRefused (AreRestorable nodes) (map row_shown rows) (place + 1)
-refused-there nodes rows place row kept inside is fails =
-    let back : place ≡ place + 1 - 1 = omega arith in
-    record {
-      from = omega arith;
-      to = let long = length-map rows row_shown in omega (arith, inside, long);
-      before = subst (λ k. AreRestorable nodes (take k (map row_shown rows))) back (subst (AreRestorable nodes) (sym (take-map row_shown place rows)) kept);
-      refused = λ whole. fails (subst (AreRestorable nodes) (take-map row_shown (place + 1) rows ∙ one-more rows place row inside is) whole);
-    }
+refused-there nodes rows place row kept inside is fails = grind (arith, length-map, take-map, one-more)
 
 -- so is a row that may not follow those before it
 pub refused-rules : (nodes : List (List ℕ)) (rows : List Row) (place : ℕ) (has : List ℕ → Bool) (row : Row) → SoFar nodes rows place has → place < length rows → row ≡ get_or rows place row

@@ -1,7 +1,7 @@
 -- What holds of a list of which one is so, and each other one otherwise.
 use Rattle.csi_orchestrator.proofs.Words.{◌≡◌, ℕ, List, [], ◌∷◌, ◌++◌, Bool, true, false, cond, map, refl, sym, ◌∙◌, ap}
 use Rattle.csi_orchestrator.proofs.Words.{subst, inl, inr, Some, None, find, AllByRecursion, same_text, change_by}
-use Rattle.csi_orchestrator.proofs.Words.{put_by, HasOne}
+use Rattle.csi_orchestrator.proofs.Words.{put_by, HasOne, arith}
 use Rattle.csi_orchestrator.proofs.Lemmas.{none-some, same_Some, each-weaker, each-map, all_of, each_of}
 use Rattle.csi_orchestrator.proofs.Lemmas.{same_text-tells}
 use Rattle.csi_orchestrator.proofs.EntryRules.{AreApart}
@@ -57,12 +57,7 @@ one-each key text P Q R (x ∷ xs) f g (inr later) = (g x later.1, one-each key 
 -- those apart from one of a text are of other texts
 pub others-of : {X : Type 0} (key : X → List ℕ) (text : List ℕ) (Q : X → Type 0) (x : X) (xs : List X) → same_text (key x) text ≡ true → AllByRecursion (λ y. same_text (key x) (key y) ≡ false) xs → AllByRecursion Q xs
     → AllByRecursion (λ y. (same_text (key y) text ≡ false) × Q y) xs
-others-of key text Q x xs e apart all =
-    all_of (λ y. (same_text (key y) text ≡ false) × Q y) xs
-    (λ y among. (
-      same_text-flip (key y) text ∙ ap (λ t. same_text t (key y)) (sym ((same_text-tells (key x) text).0 e)) ∙ each_of (λ y. same_text (key x) (key y) ≡ false) xs y apart among,
-      each_of Q xs y all among,
-    ))
+others-of key text Q x xs e apart all = grind (arith, all_of, same_text-flip, same_text-tells, each_of)
 
 -- of entries that are all otherwise, the one that is found is so too
 pub one-of : {X : Type 0} (key : X → List ℕ) (text : List ℕ) (P Q : X → Type 0) (x : X) (xs : List X) → AreApart key xs → AllByRecursion Q xs → find (λ y. same_text (key y) text) xs ≡ Some x → P x → HasOne key text P Q xs
@@ -86,11 +81,7 @@ one-last key text P Q x (y ∷ ys) all none e own = by (same_text (key y) text) 
 -- one that is put in is so
 pub one-put : {X : Type 0} (key : X → List ℕ) (P Q : X → Type 0) (x : X) (xs : List X) → AreApart key xs → AllByRecursion Q xs → P x → HasOne key (key x) P Q (put_by key x xs)
 one-put key P Q x [] apart all own = inl (text-same (key x), own, tt)
-one-put key P Q x (y ∷ ys) apart all own = by (same_text (key y) (key x)) refl (one-put key P Q x ys apart.1 all.1 own)
-  where
-    by : (b : Bool) → same_text (key y) (key x) ≡ b → HasOne key (key x) P Q (put_by key x ys) → HasOne key (key x) P Q (cond b (x ∷ ys) (y ∷ put_by key x ys))
-    by true e rest = inl (text-same (key x), own, others-of key (key x) Q y ys e apart.0 all.1)
-    by false e rest = inr (e, all.0, rest)
+one-put key P Q x (y ∷ ys) apart all own = grind (arith, text-same, others-of, (one-put key P Q x ys apart.1 all.1 own))
 
 -- each is changed so that its text stays
 pub one-map : {X : Type 0} (key : X → List ℕ) (text : List ℕ) (f : X → X) (P Q R : X → Type 0) (xs : List X) → ((x : X) → key (f x) ≡ key x) → ((x : X) → same_text (key x) text ≡ true → P x → R (f x))

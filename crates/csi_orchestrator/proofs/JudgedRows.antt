@@ -1,29 +1,26 @@
 -- The tests of a row are passed exactly where it keeps the rules.
 use Rattle.csi_orchestrator.proofs.Words.{◌≡◌, ◌≢◌, ℕ, length, map, Bool, true, false, not, List, [], ◌∷◌, refl, sym}
-use Rattle.csi_orchestrator.proofs.Words.{◌∙◌, ap, subst, inl, inr, arith, ◌⊎◌, Option, Some, None, find, is_some}
-use Rattle.csi_orchestrator.proofs.Words.{is_none, option_and_then, ◌==◌, ◌&&◌, ◌||◌, nat_le, AllByRecursion, IsAmong}
-use Rattle.csi_orchestrator.proofs.Words.{EachTwo, Capability, same_text, same_flag, same_capability, is_single_node}
-use Rattle.csi_orchestrator.proofs.Words.{are_two_writers, Goal, Create, Use, Stop, Delete, OpenCall, TargetEntry}
-use Rattle.csi_orchestrator.proofs.Words.{NodeEntry, Row, Usage, Known, Yes, No, Maybe, is_for_one_node}
-use Rattle.csi_orchestrator.proofs.Words.{uses_as_second_writer, call_for, Held, NodeEntryShown, RowShown, mark_in}
-use Rattle.csi_orchestrator.proofs.Words.{held_at, goal_in, is_yes, is_no, IsRestorable, is_so_elsewhere, has_elsewhere}
-use Rattle.csi_orchestrator.proofs.Words.{AreTargetsApart, node_entry_shown, row_shown, IsStanding, HasOne, IsAtWork}
-use Rattle.csi_orchestrator.proofs.Words.{HasMarks, IsLeft, IsAtRest, AreMarked, HasLast, IsEmptyUnlessMade}
-use Rattle.csi_orchestrator.proofs.Words.{CanBeBeside, is_resting, is_at_target, stops_here, uses_here}
-use Rattle.csi_orchestrator.proofs.Words.{is_stop_on_the_way, is_use_on_the_way, fits_life, has_tries, is_tried}
-use Rattle.csi_orchestrator.proofs.Words.{are_entries_fit, is_restorable}
-use Rattle.csi_orchestrator.proofs.Lemmas.{and_from, and_parts, false≢true, le-leb, leb-true, length-map, none-some}
-use Rattle.csi_orchestrator.proofs.Lemmas.{same_Some, each_of, among-find, find-passes, any-none, same_text-tells}
-use Rattle.csi_orchestrator.proofs.Lemmas.{same_capability-tells}
+use Rattle.csi_orchestrator.proofs.Words.{◌∙◌, ap, subst, inl, inr, arith, ◌⊎◌, ⊎_elim, ◌==◌, Option, Some, None, find}
+use Rattle.csi_orchestrator.proofs.Words.{is_some, option_and_then, ◌&&◌, ◌||◌, AllByRecursion, IsAmong, EachTwo}
+use Rattle.csi_orchestrator.proofs.Words.{Capability, same_text, same_flag, is_single_node, are_two_writers, Goal}
+use Rattle.csi_orchestrator.proofs.Words.{Create, Use, Stop, Delete, OpenCall, TargetEntry, NodeEntry, Row, Usage}
+use Rattle.csi_orchestrator.proofs.Words.{Known, Yes, No, Maybe, is_for_one_node, uses_as_second_writer, call_for, Held}
+use Rattle.csi_orchestrator.proofs.Words.{NodeEntryShown, RowShown, mark_in, held_at, goal_in, is_yes, is_no}
+use Rattle.csi_orchestrator.proofs.Words.{IsRestorable, is_so_elsewhere, has_elsewhere, AreTargetsApart}
+use Rattle.csi_orchestrator.proofs.Words.{node_entry_shown, row_shown, IsStanding, HasOne, IsAtWork, HasMarks, IsLeft}
+use Rattle.csi_orchestrator.proofs.Words.{IsAtRest, AreMarked, HasLast, IsEmptyUnlessMade, CanBeBeside, is_resting}
+use Rattle.csi_orchestrator.proofs.Words.{stops_here, uses_here, is_stop_on_the_way, is_use_on_the_way, fits_life}
+use Rattle.csi_orchestrator.proofs.Words.{is_restorable}
+use Rattle.csi_orchestrator.proofs.Lemmas.{false≢true, length-map, none-some, same_Some, each_of, among-find}
+use Rattle.csi_orchestrator.proofs.Lemmas.{find-passes, any-none, same_text-tells, same_capability-tells}
 use Rattle.csi_orchestrator.specs.Public.RowRules.{HasEntry, IsUsable, MayBeWanted}
-use Rattle.csi_orchestrator.specs.Public.Shown.{AreNodesApart}
-use Rattle.csi_orchestrator.specs.Private.Judging.{is_left}
 use Rattle.csi_orchestrator.proofs.HasOnes.{one-found, one-is, one-with, one-weaker}
-use Rattle.csi_orchestrator.proofs.Judged.{all-shown, shown-all, resting-from, from-resting, left-from, from-left, either-from, first-passes, second-passes, empty-from, beside-flip, AreEntriesFit, entries-from, from-entries, tries-from, from-tries, tried-from, from-tried}
+use Rattle.csi_orchestrator.proofs.Judged.{AreEntriesFit, left, resting, beside-flip, entries_tell, tries_tell, tried_tells}
 use Rattle.csi_orchestrator.proofs.RowRules.{here}
+use Rattle.csi_orchestrator.proofs.Tells.{Tells, never, most, empty, absent, like, both, both_then, either, each_shown}
 use Rattle.csi_orchestrator.proofs.UseRules.{flag-same}
 use Rattle.csi_orchestrator.proofs.ViewsFollow.{and-false}
-use Rattle.csi_orchestrator.proofs.Walks.{TargetLast, one-from, from-one, no-yes, maybe-yes, marks-from, from-marks}
+use Rattle.csi_orchestrator.proofs.Walks.{TargetLast, one_tells, no-yes, maybe-yes, marks_tell}
 
 -- ---- a use
 
@@ -34,39 +31,20 @@ record IsUsedHere (usage : Usage) (entry : NodeEntryShown) : Type 0 where
   pub capable : entry.capability ≡ usage.capability
   pub flagged : entry.readonly ≡ usage.readonly
 
--- by the tests
-uses-from : (usage : Usage) (entry : NodeEntry) → AreTargetsApart (node_entry_shown entry) → uses_here usage entry ≡ true → IsUsedHere usage (node_entry_shown entry)
-uses-from usage entry apart h =
-    let at = is_at_target true entry.attached entry.staged usage.target true entry.target_entries.items in
-    let flagged = same_flag entry.readonly usage.readonly in
-    let two = and_parts (same_capability entry.capability usage.capability) (flagged && at) h in
-    let three = and_parts flagged at two.1 in
-    let m = marks-from true (node_entry_shown entry) usage.target apart three.1 in
-    record { marks = m.0; last = m.1 refl; capable = (same_capability-tells entry.capability usage.capability).0 two.0; flagged = flag-same entry.readonly usage.readonly three.0 }
-
 -- the same flag
-from-flag : (a b : Bool) → a ≡ b → same_flag a b ≡ true
-from-flag true b e = sym e
-from-flag false true e = e
-from-flag false false e = refl
+flags : (a b : Bool) → Tells (same_flag a b) (a ≡ b)
+flags a b = grind (arith, flag-same)
 
--- and back
-from-uses : (usage : Usage) (entry : NodeEntry) → IsUsedHere usage (node_entry_shown entry) → uses_here usage entry ≡ true
-from-uses usage entry used =
-    let at = is_at_target true entry.attached entry.staged usage.target true entry.target_entries.items in
-    let flagged = same_flag entry.readonly usage.readonly in
-    and_from (same_capability entry.capability usage.capability) (flagged && at) ((same_capability-tells entry.capability usage.capability).1 used.capable)
-    (and_from flagged at (from-flag entry.readonly usage.readonly used.flagged) (from-marks true (node_entry_shown entry) usage.target used.marks (λ must. used.last)))
+used : (usage : Usage) (entry : NodeEntry) → AreTargetsApart (node_entry_shown entry) → Tells (uses_here usage entry) (IsUsedHere usage (node_entry_shown entry))
+used usage entry apart =
+    like
+    (both (record { from = (same_capability-tells entry.capability usage.capability).0; back = (same_capability-tells entry.capability usage.capability).1 })
+    (both (flags entry.readonly usage.readonly) (marks_tell true (node_entry_shown entry) usage.target apart))) (λ is. record { marks = is.1.1.0; last = is.1.1.1 refl; capable = is.0; flagged = is.1.0 })
+    (λ is. (is.capable, (is.flagged, (is.marks, λ must. is.last))))
 
 -- one entry is so
 abbrev OneUsed : Usage → List NodeEntryShown → Type 0
 OneUsed usage entries = HasOne (λ (e : NodeEntryShown). e.node) usage.node (IsUsedHere usage) IsAtRest entries
-
--- by the walk
-use-from : (usage : Usage) (entries : List NodeEntry) → AllByRecursion AreTargetsApart (map node_entry_shown entries) → AreNodesApart (map node_entry_shown entries) → is_use_on_the_way usage entries ≡ true → OneUsed usage (map node_entry_shown entries)
-use-from usage entries targets apart h =
-    one-from node_entry_shown (λ (e : NodeEntryShown). e.node) usage.node (IsUsedHere usage) IsAtRest (uses_here usage) is_resting (is_use_on_the_way usage) refl (λ r rs. refl) resting-from entries
-    (λ r among own. uses-from usage r (each_of AreTargetsApart (map node_entry_shown entries) (node_entry_shown r) targets among) own) apart h
 
 -- of two of a list the one stands so to the other, or this to that, unless they are one
 two-either : {X : Type 0} (R : X → X → Type 0) (xs : List X) (x y : X) → EachTwo R xs → IsAmong x xs → IsAmong y xs → (x ≡ y) ⊎ (R x y ⊎ R y x)
@@ -119,10 +97,7 @@ usable row usage made beside one =
 
 -- where a goal is at work, it isn't published yet
 work-unpublished : (a s p : Known) → IsAtWork a s p → is_yes p ≡ false
-work-unpublished Maybe No No work = refl
-work-unpublished Yes Maybe No work = refl
-work-unpublished Yes Yes Maybe work = refl
-work-unpublished a s p work = absurd work
+work-unpublished a s p work = grind arith
 
 -- what is found of its node is so, by the rules
 used-here : (row : RowShown) (usage : Usage) (entry : NodeEntryShown) → HasEntry row usage → HasLast (Some (Use usage)) row.node_entries → find (λ (e : NodeEntryShown). same_text e.node usage.node) row.node_entries ≡ Some entry
@@ -147,19 +122,9 @@ used-here row usage entry has last found marks =
 abbrev IsStoppedHere : List ℕ → NodeEntryShown → Type 0
 IsStoppedHere target entry = HasMarks IsAtWork target entry ⊎ IsLeft entry
 
--- by the tests
-stops-from : (target : List ℕ) (entry : NodeEntry) → AreTargetsApart (node_entry_shown entry) → stops_here target entry ≡ true → IsStoppedHere target (node_entry_shown entry)
-stops-from target entry apart h = by (either-from (is_left entry) (is_at_target false entry.attached entry.staged target true entry.target_entries.items) h)
-  where
-    by : (is_left entry ≡ true) ⊎ (is_at_target false entry.attached entry.staged target true entry.target_entries.items ≡ true) → IsStoppedHere target (node_entry_shown entry)
-    by (inl left) = inr (left-from entry left)
-    by (inr at) = inl (marks-from false (node_entry_shown entry) target apart at).0
-
--- and back
-from-stops : (target : List ℕ) (entry : NodeEntry) → IsStoppedHere target (node_entry_shown entry) → stops_here target entry ≡ true
-from-stops target entry (inl marks) =
-    second-passes (is_left entry) (is_at_target false entry.attached entry.staged target true entry.target_entries.items) (from-marks false (node_entry_shown entry) target marks (λ must. absurd (false≢true must)))
-from-stops target entry (inr left) = first-passes (is_left entry) (is_at_target false entry.attached entry.staged target true entry.target_entries.items) (from-left entry left)
+stopped : (target : List ℕ) (entry : NodeEntry) → AreTargetsApart (node_entry_shown entry) → Tells (stops_here target entry) (IsStoppedHere target (node_entry_shown entry))
+stopped target entry apart =
+    like (either (left entry) (marks_tell false (node_entry_shown entry) target apart)) (⊎_elim inr (λ is. inl is.0)) (⊎_elim (λ marks. inr (marks, λ must. absurd (false≢true must))) inl)
 
 -- ---- the life of a row
 
@@ -176,99 +141,72 @@ record HasLife (row : RowShown) : Type 0 where
 abbrev row_so : Row → Option Goal → Option ℕ → Known → RowShown
 row_so row goal id exists = record (row_shown row) { id = id; exists = exists; goal = goal }
 
--- no entries are shown
-empty-shown : (entries : List NodeEntry) → (length entries == 0) ≡ true → map node_entry_shown entries ≡ []
-empty-shown entries h = ap (map node_entry_shown) (empty-from entries h)
-
 -- without entries
-bare-life : (row : RowShown) → row.node_entries ≡ [] → IsStanding row.goal row.id row.exists → AreMarked IsAtWork (λ mark. mark ≢ No) row.goal [] → HasLast row.goal [] → MayBeWanted row row.goal → HasLife row
-bare-life row none standing marked last may =
+bare : (row : Row) (goal : Option Goal) (id : Option ℕ) (exists : Known) → exists ≢ Yes → IsStanding goal id exists → AreMarked IsAtWork (λ mark. mark ≢ No) goal [] → HasLast goal []
+    → (map node_entry_shown row.node_entries.items ≡ [] → MayBeWanted (row_so row goal id exists) goal) → Tells (length row.node_entries.items == 0) (HasLife (row_so row goal id exists))
+bare row goal id exists other standing marked last may =
+    like (empty row.node_entries.items)
+    (λ none.
+    let shown : map node_entry_shown row.node_entries.items ≡ [] = ap (map node_entry_shown) none in
     record {
       standing = standing;
-      bare = λ e. none;
-      empty = λ other. none;
-      marked = subst (AreMarked IsAtWork (λ mark. mark ≢ No) row.goal) (sym none) marked;
-      last = subst (HasLast row.goal) (sym none) last;
-      may = may;
-    }
+      bare = λ e. shown;
+      empty = λ other. shown;
+      marked = subst (AreMarked IsAtWork (λ mark. mark ≢ No) goal) (sym shown) marked;
+      last = subst (HasLast goal) (sym shown) last;
+      may = may shown;
+    })
+    (λ life. (empty row.node_entries.items).from (ap (λ n. n == 0) (sym (length-map row.node_entries.items node_entry_shown) ∙ ap length (life.empty other))))
 
--- by the tests
-life-from : (nodes : List (List ℕ)) (row : Row) (goal : Option Goal) (id : Option ℕ) (exists : Known) → AreEntriesFit nodes row.arguments.capabilities (map node_entry_shown row.node_entries.items)
-    → fits_life goal (is_some id) exists row.node_entries.items ≡ true → HasLife (row_so row goal id exists)
-life-from nodes row None None Maybe fit h = bare-life (row_so row None None Maybe) (empty-shown row.node_entries.items h) tt tt tt tt
-life-from nodes row None (Some id) Yes fit h =
-    record { standing = tt; bare = λ e. absurd (none-some id (sym e)); empty = λ other. absurd (other refl); marked = all-shown node_entry_shown is_resting IsAtRest row.node_entries.items resting-from h; last = tt; may = tt }
-life-from nodes row None (Some id) No fit h = bare-life (row_so row None (Some id) No) (empty-shown row.node_entries.items h) tt tt tt tt
-life-from nodes row (Some Create) None Maybe fit h = bare-life (row_so row (Some Create) None Maybe) (empty-shown row.node_entries.items h) tt tt tt refl
-life-from nodes row (Some (Use usage)) (Some id) Yes fit h =
-    record {
-      standing = tt;
-      bare = λ e. absurd (none-some id (sym e));
-      empty = λ other. absurd (other refl);
-      marked = one-weaker (λ (e : NodeEntryShown). e.node) usage.node (IsUsedHere usage) IsAtRest (HasMarks IsAtWork usage.target) (map node_entry_shown row.node_entries.items) (λ e used. used.marks) one;
-      last = λ entry found un. (one-is (λ (e : NodeEntryShown). e.node) usage.node (IsUsedHere usage) IsAtRest (map node_entry_shown row.node_entries.items) one entry found).last;
-      may = usable (row_so row (Some (Use usage)) (Some id) Yes) usage refl fit.beside one;
-    }
-  where
-    one : OneUsed usage (map node_entry_shown row.node_entries.items)
-    one = use-from usage row.node_entries.items fit.targets fit.apart h
-life-from nodes row (Some (Stop node target)) (Some id) Yes fit h =
-    record {
-      standing = tt;
-      bare = λ e. absurd (none-some id (sym e));
-      empty = λ other. absurd (other refl);
-      marked =
-          one-from node_entry_shown (λ (e : NodeEntryShown). e.node) node (IsStoppedHere target) IsAtRest (stops_here target) is_resting (is_stop_on_the_way node target) refl (λ r rs. refl) resting-from row.node_entries.items
-          (λ r among own. stops-from target r (each_of AreTargetsApart (map node_entry_shown row.node_entries.items) (node_entry_shown r) fit.targets among) own) fit.apart h;
-      last = tt;
-      may = tt;
-    }
-life-from nodes row (Some Delete) (Some id) Maybe fit h =
-    let none = empty-shown row.node_entries.items h in bare-life (row_so row (Some Delete) (Some id) Maybe) none tt tt tt (subst (AllByRecursion (λ (e : NodeEntryShown). e.attached ≡ No)) (sym none) tt)
-life-from nodes row goal id exists fit h = absurd (false≢true h)
+-- with entries that are marked so, which may be wanted
+made : (row : Row) (goal : Option Goal) (id : ℕ) → IsStanding goal (Some id) Yes → {b : Bool} {P : Type 0} → Tells b P
+    → (P → AreMarked IsAtWork (λ mark. mark ≢ No) goal (map node_entry_shown row.node_entries.items) × HasLast goal (map node_entry_shown row.node_entries.items) × MayBeWanted (row_so row goal (Some id) Yes) goal)
+    → (HasLife (row_so row goal (Some id) Yes) → P) → Tells b (HasLife (row_so row goal (Some id) Yes))
+made row goal id standing tells into out =
+    like tells
+    (λ p. let is = into p in record { standing = standing; bare = λ e. absurd (none-some id (sym e)); empty = λ other. absurd (other refl); marked = is.0; last = is.1; may = is.2 }) out
 
--- none are shown
-from-none-shown : (entries : List NodeEntry) → map node_entry_shown entries ≡ [] → (length entries == 0) ≡ true
-from-none-shown entries none = ap (λ n. n == 0) (sym (length-map entries node_entry_shown) ∙ ap length none)
-
--- and back
-from-life : (row : Row) (goal : Option Goal) (id : Option ℕ) (exists : Known) → IsStanding goal id exists → HasLife (row_so row goal id exists) → fits_life goal (is_some id) exists row.node_entries.items ≡ true
-from-life row None None Maybe standing life = from-none-shown row.node_entries.items (life.empty maybe-yes)
-from-life row None (Some id) Yes standing life = shown-all node_entry_shown is_resting IsAtRest row.node_entries.items from-resting life.marked
-from-life row None (Some id) No standing life = from-none-shown row.node_entries.items (life.empty no-yes)
-from-life row (Some Create) None Maybe standing life = from-none-shown row.node_entries.items (life.empty maybe-yes)
-from-life row (Some (Use usage)) (Some id) Yes standing life =
-    from-one node_entry_shown (λ (e : NodeEntryShown). e.node) usage.node (IsUsedHere usage) IsAtRest (uses_here usage) is_resting (is_use_on_the_way usage) (λ r rs. refl) from-resting (from-uses usage) row.node_entries.items
-    (one-with (λ (e : NodeEntryShown). e.node) usage.node (HasMarks IsAtWork usage.target) IsAtRest (IsUsedHere usage) (map node_entry_shown row.node_entries.items)
+life_tells : (nodes : List (List ℕ)) (row : Row) (goal : Option Goal) (id : Option ℕ) (exists : Known) → AreEntriesFit nodes row.arguments.capabilities (map node_entry_shown row.node_entries.items)
+    → Tells (fits_life goal (is_some id) exists row.node_entries.items) (HasLife (row_so row goal id exists))
+life_tells nodes row None None Maybe fit = bare row None None Maybe maybe-yes tt tt tt (λ none. tt)
+life_tells nodes row None (Some id) Yes fit = made row None id tt (each_shown node_entry_shown is_resting IsAtRest resting row.node_entries.items) (λ rest. (rest, tt, tt)) (λ life. life.marked)
+life_tells nodes row None (Some id) No fit = bare row None (Some id) No no-yes tt tt tt (λ none. tt)
+life_tells nodes row (Some Create) None Maybe fit = bare row (Some Create) None Maybe maybe-yes tt tt tt (λ none. refl)
+life_tells nodes row (Some (Use usage)) (Some id) Yes fit =
+    made row (Some (Use usage)) id tt
+    (one_tells node_entry_shown (λ (e : NodeEntryShown). e.node) usage.node (IsUsedHere usage) IsAtRest (uses_here usage) is_resting (is_use_on_the_way usage) refl (λ r rs. refl) resting row.node_entries.items
+    (λ r among. used usage r (each_of AreTargetsApart (map node_entry_shown row.node_entries.items) (node_entry_shown r) fit.targets among)) fit.apart)
+    (λ one. (
+      one-weaker (λ (e : NodeEntryShown). e.node) usage.node (IsUsedHere usage) IsAtRest (HasMarks IsAtWork usage.target) (map node_entry_shown row.node_entries.items) (λ e used. used.marks) one,
+      λ entry found un. (one-is (λ (e : NodeEntryShown). e.node) usage.node (IsUsedHere usage) IsAtRest (map node_entry_shown row.node_entries.items) one entry found).last,
+      usable (row_so row (Some (Use usage)) (Some id) Yes) usage refl fit.beside one,
+    ))
+    (λ life.
+    one-with (λ (e : NodeEntryShown). e.node) usage.node (HasMarks IsAtWork usage.target) IsAtRest (IsUsedHere usage) (map node_entry_shown row.node_entries.items)
     (λ entry found marks. used-here (row_so row (Some (Use usage)) (Some id) Yes) usage entry life.may.entry life.last found marks) life.marked)
-from-life row (Some (Stop node target)) (Some id) Yes standing life =
-    from-one node_entry_shown (λ (e : NodeEntryShown). e.node) node (IsStoppedHere target) IsAtRest (stops_here target) is_resting (is_stop_on_the_way node target) (λ r rs. refl) from-resting (from-stops target) row.node_entries.items life.marked
-from-life row (Some Delete) (Some id) Maybe standing life = from-none-shown row.node_entries.items (life.empty maybe-yes)
-from-life row goal id exists standing life = absurd standing
+life_tells nodes row (Some (Stop node target)) (Some id) Yes fit =
+    made row (Some (Stop node target)) id tt
+    (one_tells node_entry_shown (λ (e : NodeEntryShown). e.node) node (IsStoppedHere target) IsAtRest (stops_here target) is_resting (is_stop_on_the_way node target) refl (λ r rs. refl) resting row.node_entries.items
+    (λ r among. stopped target r (each_of AreTargetsApart (map node_entry_shown row.node_entries.items) (node_entry_shown r) fit.targets among)) fit.apart) (λ one. (one, tt, tt)) (λ life. life.marked)
+life_tells nodes row (Some Delete) (Some id) Maybe fit = bare row (Some Delete) (Some id) Maybe maybe-yes tt tt tt (λ none. subst (AllByRecursion (λ (e : NodeEntryShown). e.attached ≡ No)) (sym none) tt)
+life_tells nodes row goal id exists fit = never (λ life. life.standing)
 
 -- ---- a row
 
--- where there is none
-none-from : {X : Type 0} (o : Option X) → is_none o ≡ true → o ≡ None
-none-from None h = refl
-none-from (Some x) h = absurd (false≢true h)
-
--- a row that passes the tests
-pub restorable-from : (nodes : List (List ℕ)) (row : Row) → is_restorable nodes row ≡ true → IsRestorable nodes (row_shown row)
-restorable-from nodes row h =
+-- it passes its test exactly where it keeps the rules
+pub restorable_tells : (nodes : List (List ℕ)) (row : Row) → Tells (is_restorable nodes row) (IsRestorable nodes (row_shown row))
+restorable_tells nodes row =
     let entries = row.node_entries.items in
-    let lives = fits_life row.goal (is_some row.id) row.exists entries in
-    let fits = are_entries_fit nodes row.arguments entries in
-    let tried = has_tries row.goal row.tries in
-    let left = is_tried row.goal row.tries entries in
-    let one = and_parts (nat_le (length entries) 64) (is_none row.open_call && (tried && (left && (fits && lives)))) h in
-    let two = and_parts (is_none row.open_call) (tried && (left && (fits && lives))) one.1 in
-    let three = and_parts tried (left && (fits && lives)) two.1 in
-    let own = and_parts left (fits && lives) three.1 in
-    let four = and_parts fits lives own.1 in
-    let fit = entries-from nodes row.arguments entries four.0 in
-    let life = life-from nodes row row.goal row.id row.exists fit four.1 in
-    let quiet = none-from row.open_call two.0 in
+    let long : length (map node_entry_shown entries) ≡ length entries = length-map entries node_entry_shown in
+    like
+    (both (most (length entries) 64)
+    (both (absent row.open_call)
+    (both (tries_tell row.goal row.tries) (both (tried_tells row.goal row.tries entries) (both_then (entries_tell nodes row.arguments entries) (life_tells nodes row row.goal row.id row.exists))))))
+    (λ is.
+    let fit = is.1.1.1.1.0 in
+    let life = is.1.1.1.1.1 in
+    let quiet = is.1.0 in
+    let few = is.0 in
     record {
       quiet = quiet;
       sound =
@@ -280,8 +218,8 @@ restorable-from nodes row h =
           };
       steady =
           record {
-            tries = tries-from row.goal row.tries three.0;
-            untried = tried-from row.goal row.tries entries own.0;
+            tries = is.1.1.0;
+            untried = is.1.1.1.0;
             standing = life.standing;
             bare = life.bare;
             empty = life.empty;
@@ -290,24 +228,11 @@ restorable-from nodes row h =
             allowed = fit.allowed;
             beside = fit.beside;
           };
-      within = record { each = fit.within; few = let long = length-map entries node_entry_shown in let few = leb-true (length entries) 64 one.0 in omega (arith, long, few) };
-    }
-
--- and back
-pub from-restorable : (nodes : List (List ℕ)) (row : Row) → IsRestorable nodes (row_shown row) → is_restorable nodes row ≡ true
-from-restorable nodes row kept =
-    let entries = row.node_entries.items in
-    let lives = fits_life row.goal (is_some row.id) row.exists entries in
-    let fits = are_entries_fit nodes row.arguments entries in
-    let tried = has_tries row.goal row.tries in
-    let left = is_tried row.goal row.tries entries in
-    let sound = kept.sound in
+      within = record { each = fit.within; few = omega (arith, long, few) };
+    })
+    (λ kept.
+    let few = kept.within.few in
     let steady = kept.steady in
-    let within = kept.within in
-    let life : HasLife (row_so row row.goal row.id row.exists) = record { standing = steady.standing; bare = steady.bare; empty = steady.empty; marked = steady.marked; last = steady.last; may = sound.goal } in
-    and_from (nat_le (length entries) 64) (is_none row.open_call && (tried && (left && (fits && lives)))) (le-leb (length entries) 64 (let few = within.few in let long = length-map entries node_entry_shown in omega (arith, few, long)))
-    (and_from (is_none row.open_call) (tried && (left && (fits && lives))) (ap is_none kept.quiet)
-    (and_from tried (left && (fits && lives)) (from-tries row.goal row.tries steady.tries)
-    (and_from left (fits && lives) (from-tried row.goal row.tries entries steady.untried)
-    (and_from fits lives (from-entries nodes row.arguments entries (record { within = within.each; targets = sound.targets; allowed = steady.allowed; apart = sound.nodes; beside = steady.beside }))
-    (from-life row row.goal row.id row.exists steady.standing life)))))
+    let fit : AreEntriesFit nodes row.arguments.capabilities (map node_entry_shown entries) = record { within = kept.within.each; targets = kept.sound.targets; allowed = steady.allowed; apart = kept.sound.nodes; beside = steady.beside } in
+    let life : HasLife (row_so row row.goal row.id row.exists) = record { standing = steady.standing; bare = steady.bare; empty = steady.empty; marked = steady.marked; last = steady.last; may = kept.sound.goal } in
+    (omega (arith, long, few), (kept.quiet, (steady.tries, (steady.untried, (fit, life))))))

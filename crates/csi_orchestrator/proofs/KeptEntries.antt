@@ -1,17 +1,16 @@
 -- Why each entry of a row stays one that is allowed, and any two of them stay such that the volume may be held by both.
-use Rattle.csi_orchestrator.proofs.Words.{◌≡◌, ◌≤◌, ℕ, List, [], ◌∷◌, ◌++◌, Bool, true, false, cond, not, length, map}
-use Rattle.csi_orchestrator.proofs.Words.{refl, sym, ◌∙◌, ap, subst, inl, inr, arith, Option, Some, None, is_some, ◌&&◌}
-use Rattle.csi_orchestrator.proofs.Words.{◌||◌, AllByRecursion, IsAmong, EachTwo, Capability, same_text, has_capability}
-use Rattle.csi_orchestrator.proofs.Words.{is_single_node, are_two_writers, allows_one_target, Goal, Use, Stop}
-use Rattle.csi_orchestrator.proofs.Words.{TargetEntry, Usage, Known, is_no, is_for_one_node, uses_as_second_writer}
-use Rattle.csi_orchestrator.proofs.Words.{Held, NodeEntryShown, RowShown, node_entry_of, target_entry_of, held_at}
-use Rattle.csi_orchestrator.proofs.Words.{change_by, put_by, Aspect, Existence, Publication}
-use Rattle.csi_orchestrator.proofs.Words.{node_marked, marked_at, at_goal, nodes_marked, is_target_kept}
-use Rattle.csi_orchestrator.proofs.Words.{with_kept_targets, is_node_kept, tidied_entries, new_target_entry}
-use Rattle.csi_orchestrator.proofs.Words.{with_target, entry_for, with_entry, is_entry_otherwise, IsAtRest, IsAllowed}
-use Rattle.csi_orchestrator.proofs.Words.{CanBeBeside, others_in, is_so_elsewhere, has_elsewhere, AreNodesApart}
-use Rattle.csi_orchestrator.proofs.Lemmas.{length-append, each-filter, each-map, each-weaker, filter-no_longer, each_of}
-use Rattle.csi_orchestrator.proofs.Lemmas.{among-find, find-passes, two-filter, two-map, two-more, none-among}
+use Rattle.csi_orchestrator.proofs.Words.{◌≡◌, ◌≤◌, ℕ, List, [], ◌∷◌, Bool, true, false, not, length, map, refl, sym}
+use Rattle.csi_orchestrator.proofs.Words.{◌∙◌, ap, subst, inr, arith, Option, Some, None, ◌&&◌, ◌||◌, AllByRecursion}
+use Rattle.csi_orchestrator.proofs.Words.{IsAmong, EachTwo, Capability, same_text, has_capability, is_single_node}
+use Rattle.csi_orchestrator.proofs.Words.{are_two_writers, allows_one_target, Goal, Use, Stop, Usage, Known, is_no}
+use Rattle.csi_orchestrator.proofs.Words.{is_for_one_node, uses_as_second_writer, Held, NodeEntryShown, RowShown}
+use Rattle.csi_orchestrator.proofs.Words.{node_entry_of, held_at, change_by, put_by, Aspect, Existence, node_marked}
+use Rattle.csi_orchestrator.proofs.Words.{marked_at, at_goal, nodes_marked, is_target_kept, with_kept_targets}
+use Rattle.csi_orchestrator.proofs.Words.{is_node_kept, tidied_entries, with_target, entry_for, with_entry}
+use Rattle.csi_orchestrator.proofs.Words.{is_entry_otherwise, IsAtRest, IsAllowed, CanBeBeside, others_in}
+use Rattle.csi_orchestrator.proofs.Words.{is_so_elsewhere, has_elsewhere, AreNodesApart}
+use Rattle.csi_orchestrator.proofs.Lemmas.{length-append, each-filter, each-map, each-weaker, filter-no_longer}
+use Rattle.csi_orchestrator.proofs.Lemmas.{each_of, among-find, find-passes, two-filter, two-map, two-more, none-among}
 use Rattle.csi_orchestrator.proofs.Lemmas.{same_text-tells}
 use Rattle.csi_orchestrator.proofs.EntriesBounded.{change-long}
 use Rattle.csi_orchestrator.proofs.EntryRules.{each-change, each-put}
@@ -26,22 +25,13 @@ use Rattle.csi_orchestrator.proofs.UseRules.{held-for}
 two-change : {X : Type 0} (R : X → X → Type 0) (key : X → List ℕ) (text : List ℕ) (change : X → X) (xs : List X) → ((x y : X) → R x y → R (change x) y) → ((x y : X) → R x y → R x (change y)) → EachTwo R xs
     → EachTwo R (change_by key text change xs)
 two-change R key text change [] first second two = tt
-two-change R key text change (x ∷ xs) first second two = by (same_text (key x) text) (two-change R key text change xs first second two.1)
-  where
-    by : (b : Bool) → EachTwo R (change_by key text change xs) → EachTwo R (cond b (change x ∷ xs) (x ∷ change_by key text change xs))
-    by true rest = (each-weaker (R x) (R (change x)) xs (first x) two.0, two.1)
-    by false rest = (each-change (R x) key text change xs (second x) two.0, rest)
+two-change R key text change (x ∷ xs) first second two = grind (arith, each-weaker, each-change, (two-change R key text change xs first second two.1))
 
 -- one is put in that can be beside what the one of its text can be, and beside each other one
 two-put : {X : Type 0} (R : X → X → Type 0) (key : X → List ℕ) (x : X) (xs : List X) → ((y : X) → IsAmong y xs → key y ≡ key x → (z : X) → R y z → R x z) → ((y : X) → IsAmong y xs → same_text (key y) (key x) ≡ false → R y x)
     → EachTwo R xs → EachTwo R (put_by key x xs)
 two-put R key x [] same other two = (tt, tt)
-two-put R key x (y ∷ ys) same other two =
-    by (same_text (key y) (key x)) refl (two-put R key x ys (λ z among. same z (inr among)) (λ z among. other z (inr among)) two.1)
-  where
-    by : (b : Bool) → same_text (key y) (key x) ≡ b → EachTwo R (put_by key x ys) → EachTwo R (cond b (x ∷ ys) (y ∷ put_by key x ys))
-    by true e rest = (each-weaker (R y) (R x) ys (same y (inl refl) ((same_text-tells (key y) (key x)).0 e)) two.0, two.1)
-    by false e rest = (each-put (R y) key x ys (other y (inl refl) e) two.0, rest)
+two-put R key x (y ∷ ys) same other two = grind (arith, each-weaker, same_text-tells, each-put, (two-put R key x ys (λ z among. same z (inr among)) (λ z among. other z (inr among)) two.1))
 
 -- ---- marks
 
@@ -53,41 +43,19 @@ record IsHeldAs (entry other : NodeEntryShown) : Type 0 where
 
 -- so it is of each aspect
 held-marked : (mark : Known) (aspect : Aspect) (target : List ℕ) (entry : NodeEntryShown) → IsHeldAs entry (node_marked mark aspect target entry)
-held-marked mark Publication target entry =
-    let long = change-long (λ (t : TargetEntry). t.target) target (λ (t : TargetEntry). record t { published = mark }) entry.target_entries in
-    record { same_capability = refl; same_flag = refl; no_longer = omega (arith, long) }
-held-marked mark aspect target entry = record { same_capability = refl; same_flag = refl; no_longer = omega arith }
+held-marked mark aspect target entry = grind (arith, change-long)
 
 -- an entry that is held as an allowed one is allowed
 held-allowed : (capabilities : List Capability) (entry other : NodeEntryShown) → IsHeldAs entry other → IsAllowed capabilities entry → IsAllowed capabilities other
-held-allowed capabilities entry other held own =
-    record {
-      capable = ap (has_capability capabilities) held.same_capability ∙ own.capable;
-      one_target = λ one.
-          let few = own.one_target (ap (λ (c : Capability). allows_one_target c.mode) (sym held.same_capability) ∙ one) in
-          let less = held.no_longer in
-          omega (arith, few, less);
-    }
+held-allowed capabilities entry other held own = grind arith
 
 -- it can be beside what that can be beside
 held-first : (entry other beside : NodeEntryShown) → IsHeldAs entry other → CanBeBeside entry beside → CanBeBeside other beside
-held-first entry other beside held can =
-    record {
-      several = ap (λ (c : Capability). is_single_node c.mode || is_single_node beside.capability.mode) held.same_capability ∙ can.several;
-      one_writer =
-          ap (λ (c : Capability). are_two_writers c.mode other.readonly beside.capability.mode beside.readonly) held.same_capability
-          ∙ ap (λ r. are_two_writers entry.capability.mode r beside.capability.mode beside.readonly) held.same_flag ∙ can.one_writer;
-    }
+held-first entry other beside held can = grind arith
 
 -- and what can be beside that can be beside it
 held-second : (beside entry other : NodeEntryShown) → IsHeldAs entry other → CanBeBeside beside entry → CanBeBeside beside other
-held-second beside entry other held can =
-    record {
-      several = ap (λ (c : Capability). is_single_node beside.capability.mode || is_single_node c.mode) held.same_capability ∙ can.several;
-      one_writer =
-          ap (λ (c : Capability). are_two_writers beside.capability.mode beside.readonly c.mode other.readonly) held.same_capability
-          ∙ ap (λ r. are_two_writers beside.capability.mode beside.readonly entry.capability.mode r) held.same_flag ∙ can.one_writer;
-    }
+held-second beside entry other held can = grind arith
 
 -- the entries of a row: each is allowed, and any two can be beside one another
 pub record AreFit (capabilities : List Capability) (entries : List NodeEntryShown) : Type 0 where
@@ -96,16 +64,7 @@ pub record AreFit (capabilities : List Capability) (entries : List NodeEntryShow
 
 -- they stay so where a mark is set at a node and a target
 fit-at : (capabilities : List Capability) (mark : Known) (aspect : Aspect) (node target : List ℕ) (entries : List NodeEntryShown) → AreFit capabilities entries → AreFit capabilities (marked_at mark aspect node target entries)
-fit-at capabilities mark aspect node target entries fit =
-    record {
-      allowed =
-          each-change (IsAllowed capabilities) (λ (e : NodeEntryShown). e.node) node (node_marked mark aspect target) entries
-          (λ entry own. held-allowed capabilities entry (node_marked mark aspect target entry) (held-marked mark aspect target entry) own) fit.allowed;
-      beside =
-          two-change CanBeBeside (λ (e : NodeEntryShown). e.node) node (node_marked mark aspect target) entries
-          (λ entry beside can. held-first entry (node_marked mark aspect target entry) beside (held-marked mark aspect target entry) can)
-          (λ beside entry can. held-second beside entry (node_marked mark aspect target entry) (held-marked mark aspect target entry) can) fit.beside;
-    }
+fit-at capabilities mark aspect node target entries fit = grind (arith, each-change, held-allowed, held-marked, two-change, held-first, held-second)
 
 -- at a goal's node and target
 fit-goal : (capabilities : List Capability) (mark : Known) (aspect : Aspect) (goal : Option Goal) (entries : List NodeEntryShown) → AreFit capabilities entries → AreFit capabilities (at_goal (marked_at mark aspect) goal entries)
@@ -157,15 +116,7 @@ used-alike usage entry used alike =
 
 -- where the mode allows one target, there is one once the use's own has its entry
 one-targeted : (target : List ℕ) (entry : NodeEntryShown) → IsAtRest entry → length entry.target_entries ≤ 1 → others_in target (Some entry) ≡ false → length (with_target target entry.target_entries) ≤ 1
-one-targeted target entry used few others = by (target_entry_of entry target) refl
-  where
-    by : (o : Option TargetEntry) → target_entry_of entry target ≡ o → length (cond (is_some o) entry.target_entries (entry.target_entries ++ new_target_entry target ∷ [])) ≤ 1
-    by (Some t) e = few
-    by None e = let long = length-append entry.target_entries (new_target_entry target ∷ []) in let none = ap length (empty used e) in omega (arith, long, none)
-      where
-        empty : IsAtRest entry → target_entry_of entry target ≡ None → entry.target_entries ≡ []
-        empty (inl own) f = no-others target entry.target_entries own.published f others
-        empty (inr left) f = left.targets
+one-targeted target entry used few others = grind (arith, length-append, no-others)
 
 -- the entry for a use is allowed, and held as the use asks
 record IsAdmittedEntry (usage : Usage) (capabilities : List Capability) (entry : NodeEntryShown) : Type 0 where

@@ -1,14 +1,14 @@
 -- Rows stay steady where the due call is sent, and where what was wanted is dropped.
-use Rattle.csi_orchestrator.proofs.Words.{◌≡◌, ◌≢◌, ℕ, ◌+◌, List, [], ◌∷◌, Bool, true, false, cond, not, refl, sym, ◌∙◌}
-use Rattle.csi_orchestrator.proofs.Words.{ap, subst, inl, inr, arith, ◌⊎◌, min, Option, Some, None, option_and_then}
+use Rattle.csi_orchestrator.proofs.Words.{◌≡◌, ◌≢◌, ℕ, ◌+◌, List, [], ◌∷◌, Bool, true, cond, not, refl, sym, ◌∙◌, ap}
+use Rattle.csi_orchestrator.proofs.Words.{subst, inl, inr, arith, ◌⊎◌, min, Option, Some, None, option_and_then}
 use Rattle.csi_orchestrator.proofs.Words.{Result, Ok, Err, AllByRecursion, Kind, Number, kind_of, OrchFault, Marks}
-use Rattle.csi_orchestrator.proofs.Words.{Goal, Create, Use, Stop, Usage, Step, Known, Yes, No, Maybe, is_yes}
-use Rattle.csi_orchestrator.proofs.Words.{is_no, Arguments, next_number, Due, NodeEntryShown, RowShown, node_entry_of}
+use Rattle.csi_orchestrator.proofs.Words.{Goal, Use, Stop, Usage, Step, Known, Yes, No, Maybe, is_yes, is_no}
+use Rattle.csi_orchestrator.proofs.Words.{Arguments, next_number, Due, NodeEntryShown, RowShown, node_entry_of}
 use Rattle.csi_orchestrator.proofs.Words.{publication_known, marks_at, use_due, stop_due, due_by, due_in, Aspect}
-use Rattle.csi_orchestrator.proofs.Words.{Attachment, Staging, Publication, aspect_of, exists_marked}
-use Rattle.csi_orchestrator.proofs.Words.{nodes_marked, tidied_entries, row_once_sent, dropped_row, new_row, MovedRow}
-use Rattle.csi_orchestrator.proofs.Words.{outgoing_by, row_moved, row_sends_due, HasTries, IsAtWork, HasMarks, IsLeftSo}
-use Rattle.csi_orchestrator.proofs.Words.{IsAtRest, AreMarked, HasLast, IsEmptyUnlessMade, IsSteadyRowIf, MayBeWanted}
+use Rattle.csi_orchestrator.proofs.Words.{aspect_of, exists_marked, nodes_marked, tidied_entries, row_once_sent}
+use Rattle.csi_orchestrator.proofs.Words.{dropped_row, new_row, MovedRow, outgoing_by, row_moved, row_sends_due}
+use Rattle.csi_orchestrator.proofs.Words.{HasTries, IsAtWork, HasMarks, IsLeftSo, IsAtRest, AreMarked, HasLast}
+use Rattle.csi_orchestrator.proofs.Words.{IsEmptyUnlessMade, IsSteadyRowIf, MayBeWanted}
 use Rattle.csi_orchestrator.proofs.Lemmas.{false≢true, none-some}
 use Rattle.csi_types.specs.declared.call.Kind.TheVariants as kinds
 use Rattle.csi_orchestrator.specs.declared.step.Step.TheVariants as steps
@@ -47,9 +47,7 @@ pub record IsReady (N : Type 0) (row : RowShown) : Type 0 where
 
 -- one more try, counted up to 3, is one at least
 tried-more : (goal : Option Goal) (tries : ℕ) (kind : Kind) → FitsGoal goal kind → HasTries goal (min 3 (1 + tries))
-tried-more None tries kind fits = absurd fits
-tried-more (Some (Stop node target)) tries kind fits = omega arith
-tried-more goal tries kind fits = (omega arith, omega arith)
+tried-more goal tries kind fits = grind arith
 
 -- which isn't none
 not-untried : (tries : ℕ) → min 3 (1 + tries) ≡ 0 → ⊥
@@ -57,13 +55,7 @@ not-untried tries none = omega arith
 
 -- no entries are none still, whatever is marked
 pub none-marked : (mark : Known) (aspect : Aspect) (goal : Option Goal) (entries : List NodeEntryShown) → entries ≡ [] → nodes_marked mark aspect goal entries ≡ []
-none-marked mark aspect goal entries none = ap (nodes_marked mark aspect goal) none ∙ by aspect goal
-  where
-    by : (aspect : Aspect) (goal : Option Goal) → nodes_marked mark aspect goal [] ≡ []
-    by Attachment (Some Create) = refl
-    by Staging (Some Create) = refl
-    by Publication (Some Create) = refl
-    by aspect goal = refl
+none-marked mark aspect goal entries none = grind arith
 
 -- where the volume is used at none of its nodes, and attached nowhere, there are no entries
 none-used : (entries : List NodeEntryShown) → AllByRecursion (λ (entry : NodeEntryShown). entry.attached ≡ No) entries → AllByRecursion IsAtRest entries → entries ≡ []
@@ -125,13 +117,7 @@ IsStopped marks = (is_no marks.published ≡ true) × ((marks.others ≡ true) �
 
 -- no call is due for a stop that is met
 stop-met : (node target : List ℕ) (marks : Marks) (id : ℕ) → stop_due node target marks id ≡ None → IsStopped marks
-stop-met node target marks id e = by (is_no marks.published) refl marks.others refl (is_no marks.staged) refl (is_no marks.attached) refl e
-  where
-    by : (p : Bool) → is_no marks.published ≡ p → (o : Bool) → marks.others ≡ o → (s : Bool) → is_no marks.staged ≡ s → (a : Bool) → is_no marks.attached ≡ a
-        → cond (not p) (Some (unpublishing node target id)) (cond o None (cond (not s) (Some (unstaging node id)) (cond (not a) (Some (detaching node id)) None))) ≡ None → IsStopped marks
-    by true p true o s f a g e = (p, inl o)
-    by true p false o true s true a e = (p, inr (s, a))
-    by p is_p o is_o s is_s a is_a e = absurd (none-some _ (sym e))
+stop-met node target marks id e = grind (arith, unpublishing, unstaging, detaching, none-some)
 
 -- each entry that is left is in use
 dropped-used : (N : Type 0) → (row : RowShown) → due_in row ≡ None → IsReady N row → AllByRecursion IsAtRest (tidied_entries row.node_entries)

@@ -1,10 +1,10 @@
 -- Why a row keeps its rules where a node is lost.
-use Rattle.csi_orchestrator.proofs.Words.{◌≡◌, ◌≢◌, ℕ, List, [], Bool, true, false, map, refl, sym, ◌∙◌, ap, subst, inl}
-use Rattle.csi_orchestrator.proofs.Words.{inr, arith, ◌⊎◌, Option, Some, None, option_map, AllByRecursion, EachTwo}
-use Rattle.csi_orchestrator.proofs.Words.{Capability, same_text, Goal, Use, Stop, Usage, Known, Yes, No}
-use Rattle.csi_orchestrator.proofs.Words.{NodeEntryShown, RowShown, node_entry_of, is_use_at, entry_at_loss}
-use Rattle.csi_orchestrator.proofs.Words.{row_at_loss, IsUntried, IsStandingIf, HasOne, IsAtWork, HasMarks, IsLeft}
-use Rattle.csi_orchestrator.proofs.Words.{IsAtRest, AreMarked, CameLast, HasLast, IsAllowed, CanBeBeside, IsSteadyRowIf}
+use Rattle.csi_orchestrator.proofs.Words.{◌≡◌, ◌≢◌, ℕ, List, [], Bool, true, false, map, refl, sym, ◌∙◌, ap, subst}
+use Rattle.csi_orchestrator.proofs.Words.{inl, inr, arith, ◌⊎◌, Option, Some, AllByRecursion, EachTwo, Capability}
+use Rattle.csi_orchestrator.proofs.Words.{same_text, Goal, Use, Stop, Usage, Known, Yes, No, NodeEntryShown, RowShown}
+use Rattle.csi_orchestrator.proofs.Words.{node_entry_of, is_use_at, entry_at_loss, row_at_loss, IsUntried}
+use Rattle.csi_orchestrator.proofs.Words.{IsStandingIf, HasOne, IsAtWork, HasMarks, IsLeft, IsAtRest, AreMarked}
+use Rattle.csi_orchestrator.proofs.Words.{CameLast, HasLast, IsAllowed, CanBeBeside, IsSteadyRowIf}
 use Rattle.csi_orchestrator.proofs.Lemmas.{none-some, same_Some, each-map, two-map, two-more, same_text-tells}
 use Rattle.csi_orchestrator.proofs.HasOnes.{one-map}
 use Rattle.csi_orchestrator.proofs.KeptInUse.{rest-attached, work-attached}
@@ -27,19 +27,12 @@ lost-allowed capabilities node entry own = entry-by (IsAllowed capabilities) nod
 
 -- any two can be beside one another still
 lost-beside : (node : List ℕ) (a b : NodeEntryShown) → CanBeBeside a b → CanBeBeside (entry_at_loss node a) (entry_at_loss node b)
-lost-beside node a b can =
-    entry-by (λ (x : NodeEntryShown). CanBeBeside x (entry_at_loss node b)) node a
-    (entry-by (CanBeBeside (record a { staged = No; target_entries = [] })) node b (record { several = can.several; one_writer = can.one_writer }) (record { several = can.several; one_writer = can.one_writer }))
-    (entry-by (CanBeBeside a) node b (record { several = can.several; one_writer = can.one_writer }) can)
+lost-beside node a b can = grind (arith, entry-by)
 
 -- the entry that is found then is that of the entry that was
 found-lost : (node : List ℕ) (row : RowShown) (there : List ℕ) (entry : NodeEntryShown) → node_entry_of (with_lost node row) there ≡ Some entry
     → (own : NodeEntryShown) × (node_entry_of row there ≡ Some own) × (entry ≡ entry_at_loss node own)
-found-lost node row there entry found = by (node_entry_of row there) refl (sym (lost-entry node row there) ∙ found)
-  where
-    by : (o : Option NodeEntryShown) → node_entry_of row there ≡ o → option_map (entry_at_loss node) o ≡ Some entry → (own : NodeEntryShown) × (node_entry_of row there ≡ Some own) × (entry ≡ entry_at_loss node own)
-    by None e f = absurd (none-some entry f)
-    by (Some own) e f = (own, e, sym (same_Some (entry_at_loss node own) entry f))
+found-lost node row there entry found = grind (arith, lost-entry, none-some, same_Some)
 
 -- an entry of another text isn't of the node
 another : (node text : List ℕ) (entry : NodeEntryShown) → same_text text node ≡ false → same_text entry.node text ≡ true → entry_at_loss node entry ≡ entry

@@ -20,58 +20,31 @@ IsOnWay attached staged published = ⊥
 
 -- those at work are on the way
 pub work-way : (a s p : Known) → IsAtWork a s p → IsOnWay a s p
-work-way Maybe No No w = tt
-work-way Yes Maybe No w = tt
-work-way Yes Yes Maybe w = tt
-work-way a s p w = absurd w
+work-way a s p w = grind arith
 
 -- an attachment is at work once it is sent, and on the way once it succeeded
 pub attach-goes : (a s p : Known) → is_yes a ≡ false → IsOnWay a s p → IsAtWork Maybe s p × IsOnWay Yes s p
-attach-goes No No No e w = (tt, tt)
-attach-goes Maybe No No e w = (tt, tt)
-attach-goes Yes s p e w = absurd (false≢true (sym e))
-attach-goes a s p e w = absurd w
+attach-goes a s p e w = grind (arith, false≢true)
 
 -- so is a staging
 pub stage-goes : (a s p : Known) → is_yes a ≡ true → is_yes s ≡ false → IsOnWay a s p → IsAtWork a Maybe p × IsOnWay a Yes p
-stage-goes Yes Yes p e f w = absurd (false≢true (sym f))
-stage-goes Yes Maybe No e f w = (tt, tt)
-stage-goes Yes No No e f w = (tt, tt)
-stage-goes Maybe s p e f w = absurd (false≢true e)
-stage-goes No s p e f w = absurd (false≢true e)
-stage-goes a s p e f w = absurd w
+stage-goes a s p e f w = grind (arith, false≢true)
 
 -- a publication
 pub publish-goes : (a s : Known) → is_yes a ≡ true → is_yes s ≡ true → IsAtWork a s Maybe × IsOnWay a s Yes
-publish-goes Yes Yes e f = (tt, tt)
-publish-goes Yes s e f = absurd (false≢true f)
-publish-goes a s e f = absurd (false≢true e)
+publish-goes a s e f = grind (arith, false≢true)
 
 -- its end
 pub unpublish-goes : (a s p : Known) → is_no p ≡ false → IsOnWay a s p → IsAtWork a s Maybe × IsOnWay a s No
-unpublish-goes Yes Yes Yes e w = (tt, tt)
-unpublish-goes Yes Yes Maybe e w = (tt, tt)
-unpublish-goes Yes Yes No e w = absurd (false≢true (sym e))
-unpublish-goes Yes Maybe No e w = absurd (false≢true (sym e))
-unpublish-goes Yes No No e w = absurd (false≢true (sym e))
-unpublish-goes Maybe No No e w = absurd (false≢true (sym e))
-unpublish-goes No No No e w = absurd (false≢true (sym e))
-unpublish-goes a s p e w = absurd w
+unpublish-goes a s p e w = grind (arith, false≢true)
 
 -- the end of a staging
 pub unstage-goes : (a s p : Known) → is_no p ≡ true → is_no s ≡ false → IsOnWay a s p → IsAtWork a Maybe p × IsOnWay a No p
-unstage-goes a No p e f w = absurd (false≢true (sym f))
-unstage-goes Yes Yes No e f w = (tt, tt)
-unstage-goes Yes Maybe No e f w = (tt, tt)
-unstage-goes Yes Yes Yes e f w = absurd (false≢true e)
-unstage-goes Yes Yes Maybe e f w = absurd (false≢true e)
-unstage-goes a s p e f w = absurd w
+unstage-goes a s p e f w = grind (arith, false≢true)
 
 -- the end of an attachment
 pub detach-goes : (s p : Known) → is_no p ≡ true → is_no s ≡ true → IsAtWork Maybe s p × IsOnWay No s p
-detach-goes No No e f = (tt, tt)
-detach-goes No p e f = absurd (false≢true e)
-detach-goes s p e f = absurd (false≢true f)
+detach-goes s p e f = grind (arith, false≢true)
 
 -- ---- targets
 

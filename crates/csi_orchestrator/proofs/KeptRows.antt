@@ -1,16 +1,12 @@
 -- Why the rows of an orchestrator keep their rules.
-use Rattle.csi_orchestrator.proofs.Words.{◌≡◌, ℕ, List, Bool, true, false, cond, refl, sym, subst, inl, inr, ◌⊎◌}
-use Rattle.csi_orchestrator.proofs.Words.{is_some, not, ◌&&◌, Option, Some, None, Result, Ok, Err, Kind, Reply}
-use Rattle.csi_orchestrator.proofs.Words.{is_ok_status, OrchFault, Step, Input}
-use Rattle.csi_orchestrator.proofs.Words.{Comes, RowShown, OrchestratorParts, closed}
-use Rattle.csi_orchestrator.proofs.Words.{is_row_forgotten, remembered, row_at_loss, Goal, Create, Use, Stop, Delete}
-use Rattle.csi_orchestrator.proofs.Words.{Known, Yes, No, Maybe, IsStandingIf, IsStanding, IsSteadyRowIf, IsSteadyRow}
+use Rattle.csi_orchestrator.proofs.Words.{◌≡◌, List, true, subst, inl, inr, ◌⊎◌, not, Result, Ok, Err, Kind, Reply}
+use Rattle.csi_orchestrator.proofs.Words.{OrchFault, Step, Input, Comes, RowShown, OrchestratorParts, closed}
+use Rattle.csi_orchestrator.proofs.Words.{is_row_forgotten, remembered, row_at_loss, IsSteadyRowIf, IsSteadyRow}
 use Rattle.csi_orchestrator.proofs.Words.{AreSteadyRowsIf, AreSteadyRows, MovedRows, moved_rows, step_heard, row_moves}
-use Rattle.csi_orchestrator.proofs.Words.{IsSoundRow, AreSoundRows}
+use Rattle.csi_orchestrator.proofs.Words.{IsSoundRow, AreSoundRows, arith}
 use Rattle.csi_orchestrator.proofs.Lemmas.{false≢true, each-map, each-filter, each-weaker, each_of}
 use Rattle.csi_types.specs.Public.Frame.{IsAllowed}
-use Rattle.csi_types.specs.Public.Reply.{is_create, has_id_by_rule}
-use Rattle.csi_orchestrator.specs.declared.step.Step.TheVariants as steps
+use Rattle.csi_types.specs.Public.Reply.{has_id_by_rule}
 use Rattle.csi_orchestrator.proofs.KeptLosses.{lost-kept}
 use Rattle.csi_orchestrator.proofs.EntryRules.{each-put}
 use Rattle.csi_orchestrator.proofs.KeptSteps.{closed-kept, step-kept}
@@ -34,33 +30,11 @@ AllKeptAfter N (Err fault) = Unit {0}
 
 -- a reply that has an id by rule brings one where it tells that a volume was made
 brings : (N : Type 0) (kind : Kind) (reply : Reply) → (has_id_by_rule kind reply ≡ true) ⊎ N → BringsId N (step_heard kind reply)
-brings N kind reply (inr n) = any (is_ok_status reply.status)
-  where
-    any : (b : Bool) → BringsId N (cond b (steps.Succeed kind reply.id) steps.Fail)
-    any true = λ is. inr n
-    any false = tt
-brings N kind reply (inl rule) = by (is_ok_status reply.status) rule
-  where
-    told : (id : Option ℕ) → is_some id ≡ true → (own : ℕ) × (id ≡ Some own)
-    told (Some own) e = (own, refl)
-    told None e = absurd (false≢true e)
-
-    by : (b : Bool) → cond (is_create kind && b) (is_some reply.id) (not (is_some reply.id)) ≡ true → BringsId N (cond b (steps.Succeed kind reply.id) steps.Fail)
-    by true rule = λ is. inl (told reply.id (subst (λ k. cond (is_create k && true) (is_some reply.id) (not (is_some reply.id)) ≡ true) is rule))
-    by false rule = tt
+brings N kind reply h = grind (arith, BringsId, false≢true)
 
 -- what an input asks for brings none, and what it brings is such a reply's
 step-brings : (N : Type 0) (input : Input) (step : Step) → IsFitInputIf N input → IsStepOf input step → BringsId N step
-step-brings N input step fit (inl asked) = by step asked
-  where
-    by : (step : Step) → IsAsked step → BringsId N step
-    by (steps.Succeed kind id) asked = absurd asked
-    by step asked = tt
-step-brings N input step fit (inr b) = subst (BringsId N) (sym b.is) (brings N b.kind b.reply (rule (subst (IsFitInputIf N) b.came fit)))
-  where
-    rule : IsAllowed b.frame.party b.frame.body ⊎ N → (has_id_by_rule b.kind b.reply ≡ true) ⊎ N
-    rule (inl allowed) = inl (subst (IsAllowed b.frame.party) b.body allowed).1
-    rule (inr n) = inr n
+step-brings N input step fit h = grind (arith, IsAsked, BringsId, brings)
 
 -- the rows that are remembered
 remembered-steady : (N : Type 0) (rows : List RowShown) → AreSteadyRowsIf N rows → AreSteadyRowsIf N (remembered rows)
@@ -99,29 +73,7 @@ any-fit input = tt
 
 -- a row that keeps the rules with the frames that there are keeps those with any
 pub steady-any : (row : RowShown) → IsSteadyRow row → IsSteadyRowIf (Unit {0}) row
-steady-any row kept =
-    record {
-      tries = kept.tries;
-      untried = kept.untried;
-      standing = by row.goal row.id row.exists kept.standing;
-      bare = kept.bare;
-      empty = kept.empty;
-      marked = kept.marked;
-      last = kept.last;
-      allowed = kept.allowed;
-      beside = kept.beside;
-    }
-  where
-    by : (goal : Option Goal) (id : Option ℕ) (exists : Known) → IsStanding goal id exists → IsStandingIf (Unit {0}) goal id exists
-    by None None Yes own = tt
-    by None None Maybe own = tt
-    by None (Some id) Yes own = tt
-    by None (Some id) No own = tt
-    by (Some Create) None Maybe own = tt
-    by (Some (Use usage)) (Some id) Yes own = tt
-    by (Some (Stop node target)) (Some id) Yes own = tt
-    by (Some Delete) (Some id) Maybe own = tt
-    by goal id exists own = absurd own
+steady-any row kept = grind arith
 
 -- so it is of all
 pub all-steady-any : (rows : List RowShown) → AreSteadyRows rows → AreSteadyRowsIf (Unit {0}) rows

@@ -1,5 +1,5 @@
 -- Why no goal is at work at the entries that are kept once a goal is dropped.
-use Rattle.csi_orchestrator.proofs.Words.{◌≡◌, ◌≢◌, ℕ, List, [], ◌∷◌, Bool, true, false, cond, not, length, map, filter}
+use Rattle.csi_orchestrator.proofs.Words.{◌≡◌, ◌≢◌, ℕ, List, [], ◌∷◌, Bool, true, false, not, length, map, filter}
 use Rattle.csi_orchestrator.proofs.Words.{refl, sym, ◌∙◌, ap, subst, inl, inr, arith, Some, find, ◌&&◌, AllByRecursion}
 use Rattle.csi_orchestrator.proofs.Words.{list_any, same_text, TargetEntry, Known, Yes, No, Maybe, is_yes, is_no}
 use Rattle.csi_orchestrator.proofs.Words.{NodeEntryShown, publication_known, is_target_kept, with_kept_targets}
@@ -14,11 +14,7 @@ use Rattle.csi_orchestrator.proofs.KnownTests.{yes_is_yes}
 -- what is so of each that passes is so of each that is kept
 each-if_kept : {X : Type 0} (P : X → Type 0) (q : X → Bool) (xs : List X) → AllByRecursion (λ x. q x ≡ true → P x) xs → AllByRecursion P (filter q xs)
 each-if_kept P q [] all = tt
-each-if_kept P q (x ∷ xs) all = by (q x) refl (each-if_kept P q xs all.1)
-  where
-    by : (b : Bool) → q x ≡ b → AllByRecursion P (filter q xs) → AllByRecursion P (cond b (x ∷ filter q xs) (filter q xs))
-    by true e rest = (all.0 e, rest)
-    by false e rest = rest
+each-if_kept P q (x ∷ xs) all = grind (arith, (each-if_kept P q xs all.1))
 
 -- no goal is at work at it once its targets are tidied, if it is kept
 abbrev pub IsAtRestIfKept : NodeEntryShown → Type 0
@@ -73,9 +69,7 @@ met-used target entry has attached staged published kept =
 
 -- what is staged is attached
 staged-attached : (a s p : Known) → s ≡ Yes → IsOnWay a s p → a ≡ Yes
-staged-attached Yes s p e w = refl
-staged-attached Maybe s p e w = absurd (subst (λ k. IsOnWay Maybe k p) e w)
-staged-attached No s p e w = absurd (subst (λ k. IsOnWay No k p) e w)
+staged-attached a s p e w = grind (arith, IsOnWay)
 
 -- an entry whose target isn't published any more, beside others
 pub left-used : (target : List ℕ) (entry : NodeEntryShown) → HasMarks IsOnWay target entry → is_no (publication_known target entry) ≡ true → others_in target (Some entry) ≡ true → IsAtRestIfKept entry
@@ -113,17 +107,7 @@ none-left target mark (t ∷ u ∷ us) one unpublished long = absurd (omega (ari
 
 -- an entry of which nothing is so any more isn't kept
 pub gone-used : (target : List ℕ) (entry : NodeEntryShown) → HasMarks IsOnWay target entry → is_no (publication_known target entry) ≡ true → is_no entry.staged ≡ true → is_no entry.attached ≡ true → IsAtRestIfKept entry
-gone-used target entry has unpublished unstaged detached kept = absurd (false≢true (sym gone ∙ kept))
-  where
-    none : filter is_target_kept entry.target_entries ≡ []
-    none =
-        none-left target has.published entry.target_entries has.targets (sym (ap is_no (known-there IsOnWay target entry has)) ∙ unpublished)
-        (has.alone (λ is. false≢true (sym (ap is_no is) ∙ unstaged)))
-
-    gone : is_node_kept (with_kept_targets entry) ≡ false
-    gone =
-        ap (λ b. not (b && is_no entry.staged && not (has_targets (filter is_target_kept entry.target_entries)))) detached
-        ∙ ap (λ b. not (b && not (has_targets (filter is_target_kept entry.target_entries)))) unstaged ∙ ap (λ ts. not (not (has_targets ts))) none
+gone-used target entry has unpublished unstaged detached kept = grind (arith, false≢true, none-left, known-there, IsOnWay)
 
 -- what is left of a node that was lost has no other target
 pub left-alone : (target : List ℕ) (So : Known → Type 0) (entry : NodeEntryShown) → IsLeftSo So entry → others_in target (Some entry) ≡ false

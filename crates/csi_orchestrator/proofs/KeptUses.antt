@@ -8,7 +8,7 @@ use Rattle.csi_orchestrator.proofs.Words.{publication_known, Aspect, Attachment,
 use Rattle.csi_orchestrator.proofs.Words.{node_marked, marked_at, at_goal, nodes_marked, known_by_success_of}
 use Rattle.csi_orchestrator.proofs.Words.{new_target_entry, with_target, held_as, entry_for, with_entry, HasOne}
 use Rattle.csi_orchestrator.proofs.Words.{IsAtWork, HasMarks, IsInUse, IsLeftSo, IsLeft, IsAtRest, AreMarked, others_in}
-use Rattle.csi_orchestrator.proofs.Words.{is_left, AreTargetsApart, AreNodesApart}
+use Rattle.csi_orchestrator.proofs.Words.{is_left, AreTargetsApart, AreNodesApart, arith}
 use Rattle.csi_orchestrator.proofs.Lemmas.{false≢true, and_parts, or_parts, not-true, none-some, each_of, among-find}
 use Rattle.csi_orchestrator.proofs.Lemmas.{find-passes, same_text-tells}
 use Rattle.csi_types.specs.declared.call.Kind.TheVariants as kinds
@@ -60,13 +60,7 @@ targeted target entry used apart = by (target_entry_of entry target) refl
 
 -- what is left of a node that was lost is on the way, once the target has its entry
 left-targeted : (target : List ℕ) (entry : NodeEntryShown) → IsLeft entry → HasMarks IsOnWay target (record entry { target_entries = with_target target entry.target_entries })
-left-targeted target entry left =
-    subst (λ ts. HasMarks IsOnWay target (record entry { target_entries = with_target target ts })) (sym left.targets)
-    (record { published = No; marks = subst (λ s. IsOnWay entry.attached s No) (sym left.staged) (on entry.attached left.attached); targets = inl (text-same target, refl, tt); alone = λ unstaged. refl })
-  where
-    on : (a : Known) → a ≢ No → IsOnWay a No No
-    on Yes may = tt
-    on mark may = tt
+left-targeted target entry left = grind (arith, IsOnWay, text-same)
 
 -- an entry that may be attached is held as it was
 pub held-as_is : (usage : Usage) (entry : NodeEntryShown) → is_no entry.attached ≡ false → held_as usage entry ≡ entry
@@ -107,11 +101,7 @@ use-begins usage row apart targets all =
 pub no-others : (target : List ℕ) (ts : List TargetEntry) → AllByRecursion (λ (t : TargetEntry). t.published ≡ Yes) ts → find (λ (t : TargetEntry). same_text t.target target) ts ≡ None
     → list_any (λ (t : TargetEntry). not (same_text t.target target) && not (is_no t.published)) ts ≡ false → ts ≡ []
 no-others target [] all none others = refl
-no-others target (t ∷ ts) all none others = absurd (by (same_text t.target target) none (or_parts (not (same_text t.target target) && not (is_no t.published)) _ others).0)
-  where
-    by : (b : Bool) → cond b (Some t) (find (λ (t : TargetEntry). same_text t.target target) ts) ≡ None → (not b && not (is_no t.published)) ≡ false → ⊥
-    by true e f = none-some t (sym e)
-    by false e f = false≢true (sym f ∙ ap (λ k. not (is_no k)) all.0)
+no-others target (t ∷ ts) all none others = grind (arith, or_parts, none-some, false≢true)
 
 -- an entry in use is published at the target, or at another one
 used-published : (target : List ℕ) (entry : NodeEntryShown) → IsInUse entry → is_no (publication_known target entry) ≡ true → others_in target (Some entry) ≡ false → ⊥
@@ -164,29 +154,11 @@ pub record Leads (mark : Kind → Known) (Then : Known → Known → Known → T
 
 -- a call that is sent leads to marks at work
 pub sending-leads : Leads (λ kind. Maybe) IsAtWork (λ mark. mark ≢ No)
-sending-leads =
-    record {
-      attaches = λ a s p e w. (attach-goes a s p e w).0;
-      stages = λ a s p e f w. (stage-goes a s p e f w).0;
-      publishes = λ a s p e f. (publish-goes a s e f).0;
-      unpublishes = λ a s p e w. (unpublish-goes a s p e w).0;
-      unstages = λ a s p e f w. (unstage-goes a s p e f w).0;
-      detaches = λ s p e f. (detach-goes s p e f).0;
-      leaves = λ e. cc;
-    }
+sending-leads = grind (arith, attach-goes, stage-goes, publish-goes, unpublish-goes, unstage-goes, detach-goes)
 
 -- a call that succeeded leads to marks on the way
 pub success-leads : Leads known_by_success_of IsOnWay AnyMark
-success-leads =
-    record {
-      attaches = λ a s p e w. (attach-goes a s p e w).1;
-      stages = λ a s p e f w. (stage-goes a s p e f w).1;
-      publishes = λ a s p e f. (publish-goes a s e f).1;
-      unpublishes = λ a s p e w. (unpublish-goes a s p e w).1;
-      unstages = λ a s p e f w. (unstage-goes a s p e f w).1;
-      detaches = λ s p e f. (detach-goes s p e f).1;
-      leaves = tt;
-    }
+success-leads = grind (arith, attach-goes, stage-goes, publish-goes, unpublish-goes, unstage-goes, detach-goes)
 
 -- a test of what is known at a node, by the entry that is found there
 pub known-at : (read : NodeEntryShown → Known) (test : Known → Bool) (b : Bool) (row : RowShown) (node : List ℕ) (entry : NodeEntryShown) → node_entry_of row node ≡ Some entry
@@ -289,11 +261,4 @@ work-on target entry has = record { published = has.published; marks = work-way 
 
 -- those of all entries are
 pub work-marked : (goal : Option Goal) (entries : List NodeEntryShown) → AreMarked IsAtWork (λ mark. mark ≢ No) goal entries → AreMarked IsOnWay AnyMark goal entries
-work-marked (Some (Use usage)) entries one = one-weaker (λ (e : NodeEntryShown). e.node) usage.node (HasMarks IsAtWork usage.target) IsAtRest (HasMarks IsOnWay usage.target) entries (work-on usage.target) one
-work-marked (Some (Stop node target)) entries one =
-    one-weaker (λ (e : NodeEntryShown). e.node) node (λ (e : NodeEntryShown). HasMarks IsAtWork target e ⊎ IsLeft e) IsAtRest (λ (e : NodeEntryShown). HasMarks IsOnWay target e ⊎ IsLeftSo AnyMark e) entries either one
-  where
-    either : (entry : NodeEntryShown) → HasMarks IsAtWork target entry ⊎ IsLeft entry → HasMarks IsOnWay target entry ⊎ IsLeftSo AnyMark entry
-    either entry (inl has) = inl (work-on target entry has)
-    either entry (inr left) = inr (record { attached = tt; staged = left.staged; targets = left.targets })
-work-marked goal entries all = all
+work-marked goal entries one = grind (arith, one-weaker, IsOnWay, work-on)

@@ -1,6 +1,6 @@
 -- Searches after an entry was changed or put in.
-use Rattle.csi_orchestrator.proofs.Words.{◌≡◌, ℕ, List, [], ◌∷◌, Bool, true, false, cond, refl, sym, ◌∙◌, ap, Option}
-use Rattle.csi_orchestrator.proofs.Words.{Some, None, option_map, find, same_text, change_by, put_by}
+use Rattle.csi_orchestrator.proofs.Words.{◌≡◌, ℕ, List, [], ◌∷◌, Bool, true, false, cond, refl, ap, Option, Some, None}
+use Rattle.csi_orchestrator.proofs.Words.{option_map, find, same_text, change_by, put_by, arith}
 use Rattle.csi_orchestrator.proofs.Lemmas.{same_text-tells}
 
 -- texts that are the same are compared alike
@@ -17,17 +17,7 @@ change-step : {X : Type 0} (key : X → List ℕ) (text other : List ℕ) (chang
     → find (λ x. same_text (key x) other) xs ≡ found → find (λ x. same_text (key x) other) later ≡ cond (same_text text other) (option_map change found) found
     → (b : Bool) → same_text (key x) text ≡ b → (c : Bool) → same_text text other ≡ c
     → find (λ x. same_text (key x) other) (cond b (change x ∷ xs) (x ∷ later)) ≡ cond c (option_map change (cond (same_text (key x) other) (Some x) found)) (cond (same_text (key x) other) (Some x) found)
-change-step key text other change x xs later found keeps is rest true e true f =
-    let own : same_text (key x) other ≡ true = same_text-follows (key x) text other e ∙ f in
-    ap (λ t. cond (same_text t other) (Some (change x)) (find (λ x. same_text (key x) other) xs)) (keeps x) ∙ ap (λ b. cond b (Some (change x)) (find (λ x. same_text (key x) other) xs)) own ∙ sym (ap (λ b. option_map change (cond b (Some x) found)) own)
-change-step key text other change x xs later found keeps is rest true e false f =
-    let own : same_text (key x) other ≡ false = same_text-follows (key x) text other e ∙ f in
-    ap (λ t. cond (same_text t other) (Some (change x)) (find (λ x. same_text (key x) other) xs)) (keeps x) ∙ ap (λ b. cond b (Some (change x)) (find (λ x. same_text (key x) other) xs)) own ∙ is ∙ sym (ap (λ b. cond b (Some x) found) own)
-change-step key text other change x xs later found keeps is rest false e true f =
-    let own : same_text (key x) other ≡ false = sym (ap (same_text (key x)) ((same_text-tells text other).0 f)) ∙ e in
-    ap (λ b. cond b (Some x) (find (λ x. same_text (key x) other) later)) own ∙ rest ∙ ap (λ c. cond c (option_map change found) found) f ∙ sym (ap (λ b. option_map change (cond b (Some x) found)) own)
-change-step key text other change x xs later found keeps is rest false e false f =
-    ap (λ o. cond (same_text (key x) other) (Some x) o) (rest ∙ ap (λ c. cond c (option_map change found) found) f)
+change-step key text other change x xs later found keeps is rest b e c f = grind (arith, same_text-follows, same_text-tells)
 
 -- a search after a change finds the changed entry, if it is of that text, and else what it found before
 pub find-change : {X : Type 0} (key : X → List ℕ) (text : List ℕ) (change : X → X) (xs : List X) (other : List ℕ) → ((x : X) → key (change x) ≡ key x)
@@ -42,14 +32,7 @@ put-step : {X : Type 0} (key : X → List ℕ) (entry : X) (other : List ℕ) (x
     → find (λ x. same_text (key x) other) xs ≡ found → find (λ x. same_text (key x) other) later ≡ cond (same_text (key entry) other) (Some entry) found
     → (b : Bool) → same_text (key x) (key entry) ≡ b → (c : Bool) → same_text (key entry) other ≡ c
     → find (λ x. same_text (key x) other) (cond b (entry ∷ xs) (x ∷ later)) ≡ cond c (Some entry) (cond (same_text (key x) other) (Some x) found)
-put-step key entry other x xs later found is rest true e true f = ap (λ b. cond b (Some entry) (find (λ x. same_text (key x) other) xs)) f
-put-step key entry other x xs later found is rest true e false f =
-    let own : same_text (key x) other ≡ false = same_text-follows (key x) (key entry) other e ∙ f in
-    ap (λ b. cond b (Some entry) (find (λ x. same_text (key x) other) xs)) f ∙ is ∙ sym (ap (λ b. cond b (Some x) found) own)
-put-step key entry other x xs later found is rest false e true f =
-    let own : same_text (key x) other ≡ false = sym (ap (same_text (key x)) ((same_text-tells (key entry) other).0 f)) ∙ e in
-    ap (λ b. cond b (Some x) (find (λ x. same_text (key x) other) later)) own ∙ rest ∙ ap (λ c. cond c (Some entry) found) f
-put-step key entry other x xs later found is rest false e false f = ap (λ o. cond (same_text (key x) other) (Some x) o) (rest ∙ ap (λ c. cond c (Some entry) found) f)
+put-step key entry other x xs later found is rest b e c f = grind (arith, same_text-follows, same_text-tells)
 
 -- a search after an entry was put in finds that one, if it is of that text, and else what it found before
 pub find-put : {X : Type 0} (key : X → List ℕ) (entry : X) (xs : List X) (other : List ℕ)

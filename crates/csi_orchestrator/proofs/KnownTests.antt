@@ -1,19 +1,14 @@
 -- What the tests tell of what is known of a thing.
-use Rattle.csi_orchestrator.proofs.Words.{◌≡◌, ◌≢◌, true, false, sym, ◌∙◌, ap, refl, Known, Yes, No, Maybe, is_yes}
-use Rattle.csi_orchestrator.proofs.Words.{is_no}
+use Rattle.csi_orchestrator.proofs.Words.{◌≡◌, ◌≢◌, true, false, sym, ◌∙◌, ap, Known, Yes, No, is_yes, is_no, arith}
 use Rattle.csi_orchestrator.proofs.Lemmas.{false≢true, false_from_ne_true}
 
 -- what passes the test for Yes is Yes
 pub yes_is_yes : (k : Known) → is_yes k ≡ true → k ≡ Yes
-yes_is_yes Yes e = refl
-yes_is_yes No e = absurd (false≢true e)
-yes_is_yes Maybe e = absurd (false≢true e)
+yes_is_yes k e = grind (arith, false≢true)
 
 -- what passes the test for No is No
 pub no_is_no : (k : Known) → is_no k ≡ true → k ≡ No
-no_is_no Yes e = absurd (false≢true e)
-no_is_no No e = refl
-no_is_no Maybe e = absurd (false≢true e)
+no_is_no k e = grind (arith, false≢true)
 
 -- what fails the test for Yes isn't Yes
 pub not_yes : (k : Known) → is_yes k ≡ false → k ≢ Yes

@@ -1,12 +1,12 @@
 -- Why the target of a use that isn't published yet stays the last of its node.
-use Rattle.csi_orchestrator.proofs.Words.{◌≡◌, ℕ, List, [], ◌∷◌, ◌++◌, Bool, true, false, cond, refl, sym, ◌∙◌, ap}
-use Rattle.csi_orchestrator.proofs.Words.{subst, inl, inr, Option, Some, None, is_some, find, option_map}
-use Rattle.csi_orchestrator.proofs.Words.{AllByRecursion, Kind, kind_of, same_text, Use, TargetEntry, Usage, Known, Yes}
-use Rattle.csi_orchestrator.proofs.Words.{Due, NodeEntryShown, RowShown, node_entry_of, target_entry_of, mark_in}
+use Rattle.csi_orchestrator.proofs.Words.{◌≡◌, ℕ, List, [], ◌∷◌, ◌++◌, true, false, cond, refl, sym, ◌∙◌, ap, subst}
+use Rattle.csi_orchestrator.proofs.Words.{inl, inr, Option, Some, None, is_some, find, option_map, AllByRecursion}
+use Rattle.csi_orchestrator.proofs.Words.{Kind, kind_of, same_text, Use, TargetEntry, Usage, Known, Yes, Due}
+use Rattle.csi_orchestrator.proofs.Words.{NodeEntryShown, RowShown, node_entry_of, target_entry_of, mark_in}
 use Rattle.csi_orchestrator.proofs.Words.{publication_known, is_yes, change_by, Aspect, Attachment, Staging}
 use Rattle.csi_orchestrator.proofs.Words.{Publication, aspect_of, node_marked, marked_at, at_goal, nodes_marked}
 use Rattle.csi_orchestrator.proofs.Words.{new_target_entry, with_target, held_as, entry_for, with_entry, IsAtRest}
-use Rattle.csi_orchestrator.proofs.Words.{IsLast, CameLast, HasLast}
+use Rattle.csi_orchestrator.proofs.Words.{IsLast, CameLast, HasLast, arith}
 use Rattle.csi_orchestrator.proofs.Lemmas.{false≢true, none-some, same_Some, each_of, among-find, find-passes}
 use Rattle.csi_orchestrator.proofs.Lemmas.{same_text-tells}
 use Rattle.csi_types.specs.declared.call.Kind.TheVariants as kinds
@@ -27,16 +27,8 @@ last-behind key text x (y ∷ ys) last = last
 -- a change that leaves the texts
 last-change : {X : Type 0} (key : X → List ℕ) (text other : List ℕ) (change : X → X) (xs : List X) → ((x : X) → key (change x) ≡ key x) → IsLast key text xs → IsLast key text (change_by key other change xs)
 last-change key text other change [] same last = absurd last
-last-change key text other change (x ∷ []) same last = by (same_text (key x) other)
-  where
-    by : (b : Bool) → IsLast key text (cond b (change x ∷ []) (x ∷ []))
-    by true = ap (λ t. same_text t text) (same x) ∙ last
-    by false = last
-last-change key text other change (x ∷ y ∷ ys) same last = by (same_text (key x) other) (last-change key text other change (y ∷ ys) same last)
-  where
-    by : (b : Bool) → IsLast key text (change_by key other change (y ∷ ys)) → IsLast key text (cond b (change x ∷ y ∷ ys) (x ∷ change_by key other change (y ∷ ys)))
-    by true rest = last
-    by false rest = last-behind key text x (change_by key other change (y ∷ ys)) rest
+last-change key text other change (x ∷ []) same last = grind arith
+last-change key text other change (x ∷ y ∷ ys) same last = grind (arith, last-behind, (last-change key text other change (y ∷ ys) same last))
 
 -- one that was put behind
 last-append : {X : Type 0} (key : X → List ℕ) (text : List ℕ) (x : X) (xs : List X) → same_text (key x) text ≡ true → IsLast key text (xs ++ x ∷ [])

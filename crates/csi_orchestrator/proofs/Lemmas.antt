@@ -1,8 +1,9 @@
 -- The lemmas of crates below that the proofs of this crate cite, passed on from one place. Declares nothing.
 pub use Rattle.std.proofs.Math.Seq.{map-set_same}
 pub use Rattle.std.proofs.lemmas.Bool.{and_from, and_parts, eq-eqb, eqb-true, false_from_ne_true, false≢true, le-leb}
-pub use Rattle.std.proofs.lemmas.Bool.{le-ltb, leb-true, lt-ltb, ltb-true, not-false, not-true, not_from_false, or_from}
-pub use Rattle.std.proofs.lemmas.Bool.{or_parts, true_from_ne_false, true≢false}
+pub use Rattle.std.proofs.lemmas.Bool.{le-ltb, leb-true, lt-ltb, ltb-true, not-false, not-true, not_from_false}
+pub use Rattle.std.proofs.lemmas.Bool.{or_from, cases_Bool, or_cases, or_left, or_parts, or_right, true_from_ne_false}
+pub use Rattle.std.proofs.lemmas.Bool.{true≢false}
 pub use Rattle.std.proofs.lemmas.Bool.Decides.{eqb_tells, nat_tests}
 pub use Rattle.std.proofs.lemmas.Fn.{filter_same}
 pub use Rattle.std.proofs.lemmas.List.{append-nil, append_assoc, drop_all, drop_more, length-append, length-map}

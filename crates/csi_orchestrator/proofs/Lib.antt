@@ -72,6 +72,7 @@ pub mod OpenCallPlaces
 pub mod SplitLists
 pub mod RowsRestorable
 pub mod Opened
+pub mod Tells
 pub mod Judged
 pub mod FirstEntries
 pub mod AllTold

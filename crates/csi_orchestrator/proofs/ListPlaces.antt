@@ -27,11 +27,7 @@ at-set [] i j y z h = absurd h
 at-set (x ∷ xs) zero zero y z h = inl (refl, h)
 at-set (x ∷ xs) zero (suc j) y z h = inr h
 at-set (x ∷ xs) (suc i) zero y z h = inr h
-at-set (x ∷ xs) (suc i) (suc j) y z h = by (at-set xs i j y z h)
-  where
-    by : ((j ≡ i) × (y ≡ z)) ⊎ IsAt xs j z → ((suc j ≡ suc i) × (y ≡ z)) ⊎ IsAt xs j z
-    by (inl p) = inl (ap suc p.0, p.1)
-    by (inr p) = inr p
+at-set (x ∷ xs) (suc i) (suc j) y z h = grind (arith, (at-set xs i j y z h))
 
 -- what was put in a place stands there
 pub at-set_same : {X : Type 0} (xs : List X) (i : ℕ) (x y : X) → IsAt xs i x → IsAt (set xs i y) i y
@@ -52,11 +48,7 @@ pub at-push : {X : Type 0} (xs : List X) (j : ℕ) (y z : X) → IsAt (xs ++ y �
 at-push [] zero y z h = inl (refl, h)
 at-push [] (suc j) y z h = absurd h
 at-push (x ∷ xs) zero y z h = inr h
-at-push (x ∷ xs) (suc j) y z h = by (at-push xs j y z h)
-  where
-    by : ((j ≡ length xs) × (y ≡ z)) ⊎ IsAt xs j z → ((suc j ≡ suc (length xs)) × (y ≡ z)) ⊎ IsAt xs j z
-    by (inl p) = inl (ap suc p.0, p.1)
-    by (inr p) = inr p
+at-push (x ∷ xs) (suc j) y z h = grind (arith, (at-push xs j y z h))
 
 -- a list with the image of each value at its place
 pub all-mapped : {X : Type 0} (f : X → X) (xs ys : List X) → length ys ≡ length xs → ((i : ℕ) (x : X) → IsAt xs i x → IsAt ys i (f x)) → ys ≡ map f xs

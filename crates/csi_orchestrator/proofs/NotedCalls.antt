@@ -23,11 +23,7 @@ grown (Err e) a b o ok is long none = absurd (false≢true ok)
 -- what is noted once one more call is
 noted-cases : {S : Type 0} (old new : IndexMap ℕ ℕ S) (call place other : ℕ) → Updates nat_eq old new call (Some place)
     → ((call ≡ other) × (get nat_eq new other ≡ Some place)) ⊎ ((call ≡ other → ⊥) × (get nat_eq new other ≡ get nat_eq old other))
-noted-cases old new call place other updates = by (eqb_tells call other)
-  where
-    by : ((nat_eq call other ≡ true) × (call ≡ other)) ⊎ ((nat_eq call other ≡ false) × (call ≡ other → ⊥)) → ((call ≡ other) × (get nat_eq new other ≡ Some place)) ⊎ ((call ≡ other → ⊥) × (get nat_eq new other ≡ get nat_eq old other))
-    by (inl p) = inl (p.1, updates.0 other ∙ ap (λ b. cond b (Some place) (get nat_eq old other)) p.0)
-    by (inr p) = inr (p.1, updates.0 other ∙ ap (λ b. cond b (Some place) (get nat_eq old other)) p.0)
+noted-cases old new call place other updates = grind (arith, eqb_tells)
 
 -- ---- the open calls, noted anew
 
@@ -41,94 +37,15 @@ pub record Renewed (old : Catalog) (k : ℕ) (now : Catalog) : Type 0 where
 
 -- another call of the map has no place that the call of this row has
 unnoted : (old now : Catalog) (k : ℕ) (row : Row) (kept : OpenCall) → IsNoted old → Renewed old k now → IsAt (rows_of old) k row → row.open_call ≡ Some kept → place_noted now kept.number.call ≡ None
-unnoted old now k row kept noted renewed at is_open = by (place_noted now kept.number.call) refl
-  where
-    by : (o : Option ℕ) → place_noted now kept.number.call ≡ o → o ≡ None
-    by None e = refl
-    by (Some place) e =
-        let before = renewed.only kept.number.call place e in
-        let same : place ≡ k = same_Some place k (sym before.1 ∙ noted.found k row kept at is_open) in
-        let below = before.0 in
-        absurd (omega (arith, same, below))
+unnoted old now k row kept noted renewed at is_open = grind (arith, same_Some)
 
 -- once the call of the next row is noted, if it has one, those of one more row are
 pub renewed-more : (old now then : Catalog) (k : ℕ) (row : Row) → IsNoted old → Renewed old k now → IsAt (rows_of old) k row → then.rows ≡ now.rows → IsNotedWith k row.open_call now then → Renewed old (k + 1) then
-renewed-more old now then k row noted renewed at rows more = by row.open_call refl more
-  where
-    below_cases : (place : ℕ) → place < k + 1 → (place < k) ⊎ (place ≡ k)
-    below_cases place below = split (eqb_tells place k)
-      where
-        split : ((nat_eq place k ≡ true) × (place ≡ k)) ⊎ ((nat_eq place k ≡ false) × (place ≡ k → ⊥)) → (place < k) ⊎ (place ≡ k)
-        split (inl p) = inr p.1
-        split (inr p) = let differs = p.1 in inl (omega (arith, below, differs))
-
-    own : (place : ℕ) (other : Row) → IsAt (rows_of old) place other → place ≡ k → other ≡ row
-    own place other there same = same-at (rows_of old) k other row (subst (λ (n : ℕ). IsAt (rows_of old) n other) same there) at
-
-    by : (o : Option OpenCall) → row.open_call ≡ o → IsNotedWith k o now then → Renewed old (k + 1) then
-    by None none same =
-        let calls : (call : ℕ) → place_noted then call ≡ place_noted now call = λ call. ap (λ (m : IndexMap ℕ ℕ _). get nat_eq m call) same in
-        let count = renewed.count in
-        record {
-          rows = rows ∙ renewed.rows;
-          all = λ place other kept there is_open below. step place other kept there is_open (below_cases place below);
-          only = λ call place is. let before = renewed.only call place (sym (calls call) ∙ is) in let inside = before.0 in (omega (arith, inside), before.1);
-          count = subst (λ (m : IndexMap ℕ ℕ _). index_map_len m ≤ k + 1) (sym same) (omega (arith, count));
-          room = subst (λ (m : IndexMap ℕ ℕ _). index_map_len old.calls + spare old.calls ≤ index_map_len m + spare m) (sym same) renewed.room;
-        }
-      where
-        step : (place : ℕ) (other : Row) (kept : OpenCall) → IsAt (rows_of old) place other → other.open_call ≡ Some kept → (place < k) ⊎ (place ≡ k) → place_noted then kept.number.call ≡ Some place
-        step place other kept there is_open (inl below) = ap (λ (m : IndexMap ℕ ℕ _). get nat_eq m kept.number.call) same ∙ renewed.all place other kept there is_open below
-        step place other kept there is_open (inr is) = absurd (none-some kept (sym none ∙ sym (ap (λ (r : Row). r.open_call) (own place other there is)) ∙ is_open))
-    by (Some kept) is more =
-        let new = unnoted old now k row kept noted renewed at is in
-        let long = more.2 new in
-        let used = more.1 in
-        let count = renewed.count in
-        let room = renewed.room in
-        record {
-          rows = rows ∙ renewed.rows;
-          all = λ place other own_kept there is_open below. step place other own_kept there is_open (below_cases place below);
-          only = λ call place is. before call place is (noted-cases now.calls then.calls kept.number.call k call more.0);
-          count = omega (arith, long, count);
-          room = omega (arith, long, used, room);
-        }
-      where
-        step : (place : ℕ) (other : Row) (own_kept : OpenCall) → IsAt (rows_of old) place other → other.open_call ≡ Some own_kept → (place < k) ⊎ (place ≡ k) → place_noted then own_kept.number.call ≡ Some place
-        step place other own_kept there is_open (inl below) = pick (noted-cases now.calls then.calls kept.number.call k own_kept.number.call more.0)
-          where
-            held : place_noted now own_kept.number.call ≡ Some place
-            held = renewed.all place other own_kept there is_open below
-
-            pick : ((kept.number.call ≡ own_kept.number.call) × (place_noted then own_kept.number.call ≡ Some k)) ⊎ ((kept.number.call ≡ own_kept.number.call → ⊥) × (place_noted then own_kept.number.call ≡ place_noted now own_kept.number.call)) → place_noted then own_kept.number.call ≡ Some place
-            pick (inl p) = absurd (none-some place (sym (unnoted old now k row kept noted renewed at is) ∙ ap (place_noted now) p.0 ∙ held))
-            pick (inr p) = p.1 ∙ held
-        step place other own_kept there is_open (inr at_k) = pick (noted-cases now.calls then.calls kept.number.call k own_kept.number.call more.0)
-          where
-            same : kept ≡ own_kept
-            same = same_Some kept own_kept (sym is ∙ sym (ap (λ (r : Row). r.open_call) (own place other there at_k)) ∙ is_open)
-
-            pick : ((kept.number.call ≡ own_kept.number.call) × (place_noted then own_kept.number.call ≡ Some k)) ⊎ ((kept.number.call ≡ own_kept.number.call → ⊥) × (place_noted then own_kept.number.call ≡ place_noted now own_kept.number.call)) → place_noted then own_kept.number.call ≡ Some place
-            pick (inl p) = p.1 ∙ ap Some (sym at_k)
-            pick (inr p) = absurd (p.0 (ap (λ (n : OpenCall). n.number.call) same))
-
-        before : (call place : ℕ) → place_noted then call ≡ Some place → ((kept.number.call ≡ call) × (place_noted then call ≡ Some k)) ⊎ ((kept.number.call ≡ call → ⊥) × (place_noted then call ≡ place_noted now call)) → (place < k + 1) × (place_noted old call ≡ Some place)
-        before call place noted_then (inl p) =
-            let same : k ≡ place = same_Some k place (sym p.1 ∙ noted_then) in
-            (omega (arith, same), ap (place_noted old) (sym p.0) ∙ noted.found k row kept at is ∙ ap Some same)
-        before call place noted_then (inr p) = let earlier = renewed.only call place (sym p.1 ∙ noted_then) in let inside = earlier.0 in (omega (arith, inside), earlier.1)
+renewed-more old now then k row noted renewed at rows more = grind (arith, eqb_tells, same-at, none-some, unnoted, noted-cases, same_Some)
 
 -- all of them are
 pub renewed-noted : (old now : Catalog) (k : ℕ) → IsNoted old → Renewed old k now → length (rows_of old) ≤ k → IsNoted now
-renewed-noted old now k noted renewed over =
-    let same : rows_of now ≡ rows_of old = ap values renewed.rows in
-    record {
-      found = λ place row kept at is_open.
-          let there = subst (λ (rs : List Row). IsAt rs place row) same at in
-          let inside = at-within (rows_of old) place row there in
-          renewed.all place row kept there is_open (omega (arith, inside, over));
-      room = λ some. let long = ap length same in let least = noted.room (omega (arith, long, some)) in let room = renewed.room in omega (arith, long, least, room);
-    }
+renewed-noted old now k noted renewed over = grind (arith, at-within)
 
 -- ---- every call is closed
 
@@ -143,35 +60,7 @@ pub record ClosedBefore (old : Catalog) (turn : ℕ) (now : Catalog) : Type 0 wh
 -- a turn closes the row at its place
 pub closed-more : (old now then : Catalog) (turn place : ℕ) → ClosedBefore old turn now → slice_get (values now.calls) turn ≡ Some place → IsClosedAt place (rows_of now) (rows_of then) → then.calls ≡ now.calls
     → (now.rows.entries ≡ map by_name (rows_of now) → then.rows.entries ≡ map by_name (rows_of then)) → ClosedBefore old (turn + 1) then
-closed-more old now then turn place closed noted changed calls names =
-    record {
-      long = changed.long ∙ closed.long;
-      each = λ other row at. by other row (closed.each other row at) (eqb_tells other place);
-      calls = calls ∙ closed.calls;
-      names = names closed.names;
-    }
-  where
-    noted_old : slice_get (values old.calls) turn ≡ Some place
-    noted_old = subst (λ (m : IndexMap ℕ ℕ _). slice_get (values m) turn ≡ Some place) closed.calls noted
-
-    none_before : (other : ℕ) → (other ≡ place → ⊥) → ((i : ℕ) → i < turn → slice_get (values old.calls) i ≡ Some other → ⊥) → (i : ℕ) → i < turn + 1 → slice_get (values old.calls) i ≡ Some other → ⊥
-    none_before other differs none i below is = split (eqb_tells i turn)
-      where
-        split : ((nat_eq i turn ≡ true) × (i ≡ turn)) ⊎ ((nat_eq i turn ≡ false) × (i ≡ turn → ⊥)) → ⊥
-        split (inl p) = differs (same_Some other place (sym is ∙ ap (slice_get (values old.calls)) p.1 ∙ noted_old))
-        split (inr p) = let apart = p.1 in none i (omega (arith, below, apart)) is
-
-    by : (other : ℕ) (row : Row) → IsAt (rows_of now) other (without_call row) ⊎ (IsAt (rows_of now) other row × ((i : ℕ) → i < turn → slice_get (values old.calls) i ≡ Some other → ⊥))
-        → ((nat_eq other place ≡ true) × (other ≡ place)) ⊎ ((nat_eq other place ≡ false) × (other ≡ place → ⊥))
-        → IsAt (rows_of then) other (without_call row) ⊎ (IsAt (rows_of then) other row × ((i : ℕ) → i < turn + 1 → slice_get (values old.calls) i ≡ Some other → ⊥))
-    by other row (inl at) (inl p) =
-        let there = changed.there (without_call row) (subst (λ (n : ℕ). IsAt (rows_of now) n (without_call row)) p.1 at) in
-        inl (subst (λ (n : ℕ). IsAt (rows_of then) n (without_call row)) (sym p.1) there)
-    by other row (inl at) (inr p) = inl (changed.others other (without_call row) at p.1)
-    by other row (inr at) (inl p) =
-        let there = changed.there row (subst (λ (n : ℕ). IsAt (rows_of now) n row) p.1 at.0) in
-        inl (subst (λ (n : ℕ). IsAt (rows_of then) n (without_call row)) (sym p.1) there)
-    by other row (inr at) (inr p) = inr (changed.others other row at.0 p.1, none_before other p.1 at.1)
+closed-more old now then turn place closed noted changed calls names = grind (arith, eqb_tells, same_Some)
 
 -- what is looked up is among the values
 looked-up : (es : List (ℕ × ℕ)) (call place : ℕ) → lookup (nat_eq call) es ≡ Some place → ((i : ℕ) → i < length es → slice_get (values_of es) i ≡ Some place → ⊥) → ⊥
@@ -238,11 +127,7 @@ renewed-step old now then k last noted renewed is below rows more = by (slice_ge
 
 -- more calls can be noted then than there are rows
 pub emptied-room : (old now then : Catalog) (turn : ℕ) → IsNoted old → ClosedBefore old turn now → then.rows ≡ now.rows → index_map_len now.calls + spare now.calls ≤ spare then.calls → HasRoomForCalls then
-emptied-room old now then turn noted closed same room = λ some.
-    let long : length (rows_of then) ≡ length (rows_of old) = ap (λ (m : IndexMap (List ℕ) Row _). length (values m)) same ∙ closed.long in
-    let before = subst (λ (m : IndexMap ℕ ℕ _). index_map_len m + spare m ≤ spare then.calls) closed.calls room in
-    let least = noted.room (omega (arith, long, some)) in
-    omega (arith, long, least, before)
+emptied-room old now then turn noted closed same room = grind arith
 
 -- the call of a turn is closed
 pub turn-closed : (old now then : Catalog) (turn : ℕ) → ClosedBefore old turn now → turn < length old.calls.entries

@@ -66,12 +66,7 @@ one-call began (item ∷ older) a b form at bt same = one-call began older a b f
 
 -- the call, unless it is of that number
 pub unless-some : (number : Number) (o : Option Issued) (call : Issued) → unless number o ≡ Some call → (o ≡ Some call) × (same_number call.number number ≡ false)
-unless-some number None call e = absurd (none-some call e)
-unless-some number (Some issued) call e = by (same_number issued.number number) refl e
-  where
-    by : (t : Bool) → same_number issued.number number ≡ t → cond t None (Some issued) ≡ Some call → (Some issued ≡ Some call) × (same_number call.number number ≡ false)
-    by true s f = absurd (none-some call f)
-    by false s f = (f, ap (λ (c : Issued). same_number c.number number) (sym (same_Some issued call f)) ∙ s)
+unless-some number o call e = grind (arith, none-some, same_Some)
 
 -- an open call was sent, for that name
 pub open-sent : (name : List ℕ) (items : List Item) (call : Issued) → open_in name items ≡ Some call → IsAmong call (issued_in items) × (same_text call.name name ≡ true)
@@ -130,10 +125,7 @@ open-silent began (item ∷ older) name call form e = open-silent began older na
 pub unused-closed : (began : Number) (items : List Item) (name : List ℕ) → AreWellFormed began items → (last_in began items).call ≡ 0 → open_in name items ≡ None
 unused-closed began [] name form unused = refl
 unused-closed began (Started session nodes ∷ older) name form unused = refl
-unused-closed began (Sent issued ∷ older) name form unused = absurd (not-first (last_in began older) issued.number form.0.0.later (form.0.0).same_session unused)
-  where
-    not-first : (last number : Number) → IsBefore last number → last.session ≡ number.session → number.call ≡ 0 → ⊥
-    not-first last number before same none = let t : is_before last number ≡ true = is_before-then last number before in grind (arith, nat_tests)
+unused-closed began (Sent issued ∷ older) name form unused = grind (arith, is_before-then, nat_tests)
 unused-closed began (Accepted number status id ∷ older) name form unused = ap (unless number) (unused-closed began older name form.1 unused)
 unused-closed began (Closed number ∷ older) name form unused = ap (unless number) (unused-closed began older name form.1 unused)
 unused-closed began (item ∷ older) name form unused = unused-closed began older name form.1 unused

@@ -3,7 +3,7 @@
 use Rattle.csi_orchestrator.proofs.Words.{◌≡◌, ℕ, List, get_or, Bool, true, false, refl, sym, ◌∙◌, ap, subst, Option}
 use Rattle.csi_orchestrator.proofs.Words.{Some, None, position, slice_get, IsAt, Kind, Party, Number, OpenCall, Row}
 use Rattle.csi_orchestrator.proofs.Words.{Catalog, rows_of, place_noted, IsIndexed, is_numbered, is_issued_as}
-use Rattle.csi_orchestrator.proofs.Words.{row_shown, open_in_row}
+use Rattle.csi_orchestrator.proofs.Words.{row_shown, open_in_row, arith}
 use Rattle.csi_orchestrator.proofs.Lemmas.{false≢true, false_from_ne_true, position-Some, none-some, same_Some}
 use Rattle.csi_orchestrator.proofs.Lemmas.{at-index, find-not_none, position-none, find-no_place, same_number-tells}
 use Rattle.csi_orchestrator.proofs.ListPlaces.{at-of_get, get-of_at}
@@ -33,21 +33,12 @@ none-noted catalog call p noted none = unplaced p (rows_of catalog) (λ j row at
 
 -- no row stands at its place
 pub noted-nowhere : (catalog : Catalog) (call : ℕ) (p : Row → Bool) (place : ℕ) → AreNoted catalog call p → place_noted catalog call ≡ Some place → slice_get (rows_of catalog) place ≡ None → None ≡ position p (rows_of catalog)
-noted-nowhere catalog call p place noted is none =
-    unplaced p (rows_of catalog)
-    (λ j row at passes.
-    let same : place ≡ j = same_Some place j (sym is ∙ noted j row at passes) in
-    none-some row (sym none ∙ ap (slice_get (rows_of catalog)) same ∙ get-of_at (rows_of catalog) j row at))
+noted-nowhere catalog call p place noted is none = grind (arith, unplaced, same_Some, none-some, get-of_at)
 
 -- the row there is not the one
 pub noted-otherwise : (catalog : Catalog) (call : ℕ) (p : Row → Bool) (place : ℕ) (row : Row) → AreNoted catalog call p → place_noted catalog call ≡ Some place → slice_get (rows_of catalog) place ≡ Some row → p row ≡ false
     → None ≡ position p (rows_of catalog)
-noted-otherwise catalog call p place row noted is there fails =
-    unplaced p (rows_of catalog)
-    (λ j other at passes.
-    let same : place ≡ j = same_Some place j (sym is ∙ noted j other at passes) in
-    let own : row ≡ other = same_Some row other (sym there ∙ ap (slice_get (rows_of catalog)) same ∙ get-of_at (rows_of catalog) j other at) in
-    false≢true (sym fails ∙ ap p own ∙ passes))
+noted-otherwise catalog call p place row noted is there fails = grind (arith, unplaced, same_Some, get-of_at, false≢true)
 
 -- it is
 pub noted-there : (catalog : Catalog) (call : ℕ) (p : Row → Bool) (place : ℕ) (row : Row) → AreNoted catalog call p → place_noted catalog call ≡ Some place → slice_get (rows_of catalog) place ≡ Some row → p row ≡ true

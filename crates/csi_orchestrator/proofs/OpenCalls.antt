@@ -1,15 +1,12 @@
 -- What becomes of a row's open call: it stays open, is closed, or gives way to the next one, which has the next number.
-use Rattle.csi_orchestrator.proofs.Words.{◌≡◌, ◌+◌, ◌^◌, ◌⊎◌, inl, inr, ℕ, List, Bool, true, false, cond, refl, sym}
-use Rattle.csi_orchestrator.proofs.Words.{◌∙◌, ap, subst, Option, Some, None, option_map, nat_lt, slice_get, Result, Ok}
-use Rattle.csi_orchestrator.proofs.Words.{Err, Number, OrchFault, Outgoing, Goal, Create, OpenCall, Row, Step, Catalog}
-use Rattle.csi_orchestrator.proofs.Words.{rows_of, IsIndexed, AreUpTo, IsReady, IsNextFor, outgoing_call_number}
-use Rattle.csi_orchestrator.proofs.Words.{IsNumberedAfter, next_number, last_after, step_refusal, late_refusal}
-use Rattle.csi_orchestrator.proofs.Words.{MovedRow, outgoing_by, sent_or_dropped, row_moved, row_sends_due, row_rests}
-use Rattle.csi_orchestrator.proofs.Words.{row_unless, is_step_met, waits, is_given_up, timed_out, failed}
-use Rattle.csi_orchestrator.proofs.Words.{row_before_call, row_takes, row_step, Due, Arguments, new_row, wanted_row}
-use Rattle.csi_orchestrator.proofs.Words.{stopped_goal, RowShown, row_shown, closed, due_in}
+use Rattle.csi_orchestrator.proofs.Words.{◌≡◌, ◌+◌, inr, ℕ, List, refl, ap, subst, Option, Some, None, option_map}
+use Rattle.csi_orchestrator.proofs.Words.{slice_get, Result, Ok, Err, Number, OrchFault, Outgoing, Goal, Create}
+use Rattle.csi_orchestrator.proofs.Words.{OpenCall, Row, Step, Catalog, rows_of, IsIndexed, AreUpTo, IsReady}
+use Rattle.csi_orchestrator.proofs.Words.{IsNextFor, outgoing_call_number, IsNumberedAfter, next_number, last_after}
+use Rattle.csi_orchestrator.proofs.Words.{MovedRow, outgoing_by, sent_or_dropped, row_sends_due, row_unless}
+use Rattle.csi_orchestrator.proofs.Words.{is_given_up, timed_out, failed, row_before_call, row_step, Due, Arguments}
+use Rattle.csi_orchestrator.proofs.Words.{new_row, wanted_row, stopped_goal, RowShown, row_shown, closed, arith}
 use Rattle.csi_orchestrator.proofs.Lemmas.{none-some}
-use Rattle.csi_orchestrator.specs.declared.step.Step.TheVariants as steps
 use Rattle.csi_orchestrator.proofs.RowsUnderNames.{IsOpened, catalog_with, next-unnoted, ready-set}
 use Rattle.csi_orchestrator.proofs.EntryRules.{by_if}
 
@@ -27,38 +24,19 @@ none-after last = λ call is. absurd (none-some call is)
 
 -- the next number
 numbered : (last number : Number) → next_number last ≡ Some number → number.call ≡ last.call + 1
-numbered last number is = by (nat_lt (last.call + 1) (2 ^ 64)) is
-  where
-    by : (b : Bool) → cond b (Some (let n : Number = record { session = last.session; call = last.call + 1 } in n)) None ≡ Some number → number.call ≡ last.call + 1
-    by true e = sym (ap (λ (n : Number). n.call) (some-is _ number e))
-    by false e = absurd (none-some number e)
+numbered last number is = grind (arith, some-is, none-some)
 
 -- it is one of the session
 sessioned : (last number : Number) → next_number last ≡ Some number → number.session ≡ last.session
-sessioned last number is = by (nat_lt (last.call + 1) (2 ^ 64)) is
-  where
-    by : (b : Bool) → cond b (Some (let n : Number = record { session = last.session; call = last.call + 1 } in n)) None ≡ Some number → number.session ≡ last.session
-    by true e = sym (ap (λ (n : Number). n.session) (some-is _ number e))
-    by false e = absurd (none-some number e)
+sessioned last number is = grind (arith, some-is, none-some)
 
 -- a call that is sent comes right after the last one
 after-sent : (last : Number) (due : Option Due) (next : Option Outgoing) → outgoing_by due (next_number last) ≡ Ok next → IsNumberedAfter last.call next
-after-sent last due next is = by due (next_number last) refl is
-  where
-    by : (due : Option Due) (number : Option Number) → next_number last ≡ number → outgoing_by due number ≡ Ok next → IsNumberedAfter last.call next
-    by None number own e = subst (IsNumberedAfter last.call) (ok-is None next e) (none-after last.call)
-    by (Some due) None own e = cc
-    by (Some due) (Some number) own e =
-        λ call named. sym (some-is number.call call (ap outgoing_call_number (ok-is _ next e) ∙ named)) ∙ numbered last number own
+after-sent last due next is = grind (arith, ok-is, none-after, some-is, numbered)
 
 -- and in the same session
 session-after : (last : Number) (due : Option Due) (next : Option Outgoing) → outgoing_by due (next_number last) ≡ Ok next → (last_after last next).session ≡ last.session
-session-after last due next is = by due (next_number last) refl is
-  where
-    by : (due : Option Due) (number : Option Number) → next_number last ≡ number → outgoing_by due number ≡ Ok next → (last_after last next).session ≡ last.session
-    by None number own e = ap (λ (n : Option Outgoing). (last_after last n).session) (sym (ok-is None next e))
-    by (Some due) None own e = cc
-    by (Some due) (Some number) own e = ap (λ (n : Option Outgoing). (last_after last n).session) (sym (ok-is _ next e)) ∙ sessioned last number own
+session-after last due next is = grind (arith, ok-is, sessioned)
 
 -- the row's name stays, its open call was open or is sent, and what is sent comes right after the last call
 pub record IsOn (last : Number) (row : RowShown) (moved_row : MovedRow) : Type 0 where
@@ -84,11 +62,7 @@ sent_or_dropped-name (Some next) row = refl
 
 -- a row that keeps its name goes on so where its due call is sent
 pub sends-due-goes : (last : Number) (row then : RowShown) → then.name ≡ row.name → GoesOn last row (row_sends_due last then)
-sends-due-goes last row then same = by (outgoing_by (due_in then) (next_number last)) refl
-  where
-    by : (next : Result (Option Outgoing) OrchFault) → outgoing_by (due_in then) (next_number last) ≡ next → GoesOn last row (row_moved then next)
-    by (Err fault) e = tt
-    by (Ok next) e = record { name = sent_or_dropped-name next then ∙ same; opened = sent_or_dropped-opened row.open_call next then; after = after-sent last (due_in then) next e; session = session-after last (due_in then) next e }
+sends-due-goes last row then same = grind (arith, sent_or_dropped-name, sent_or_dropped-opened, after-sent, session-after)
 
 -- a row that goes on so does where it isn't refused
 pub unless-goes : (last : Number) (row : RowShown) (fault : Option OrchFault) (moved_row : Result MovedRow OrchFault) → GoesOn last row moved_row → GoesOn last row (row_unless fault moved_row)
@@ -107,18 +81,11 @@ failed-name row goal = refl
 
 -- whatever a step changes, it leaves the row's name
 changed-name : (step : Step) (row : RowShown) → (row_before_call step row).name ≡ row.name
-changed-name steps.TimeOut row = timed-out-name row row.goal
-changed-name steps.Fail row = failed-name row row.goal
-changed-name step row = refl
+changed-name step row = grind (arith, timed-out-name, failed-name)
 
 -- whatever the step
 pub step-goes : (nodes : List (List ℕ)) (last : Number) (step : Step) (row : RowShown) → GoesOn last row (row_step nodes last step row)
-step-goes nodes last step row =
-    unless-goes last row (step_refusal nodes last step row) (row_takes last step row)
-    (by_if (GoesOn last row) (is_step_met step row) (row_rests row) _ (λ e. record { name = refl; opened = λ kept is. inl is; after = none-after last.call; session = refl })
-    (λ e. by_if (GoesOn last row) (waits step row) (row_rests (closed row)) _
-    (λ f. record { name = refl; opened = λ kept is. absurd (none-some kept is); after = none-after last.call; session = refl })
-    (λ f. unless-goes last row (late_refusal last step row) (row_sends_due last (row_before_call step row)) (sends-due-goes last row (row_before_call step row) (changed-name step row)))))
+step-goes nodes last step row = grind (arith, unless-goes, by_if, none-after, none-some, sends-due-goes, changed-name)
 
 -- once a row took a step, only the call that is sent for it isn't noted yet
 pub ready-told : (catalog : Catalog) (nodes : List (List ℕ)) (last : Number) (place : ℕ) (row new : Row) (step : Step) (next : Option Outgoing) → IsIndexed catalog → AreUpTo last.call catalog
@@ -131,16 +98,4 @@ ready-told catalog nodes last place row new step next indexed known at is =
 -- a new row
 pub next-created : (catalog : Catalog) (last : Number) (name : List ℕ) (arguments : Arguments) (row : Row) (next : Option Outgoing) → AreUpTo last.call catalog
     → row_sends_due last (new_row name arguments) ≡ Ok (record { outgoing = next; row = row_shown row }) → IsNextFor catalog row.open_call (outgoing_call_number next) × (row.name ≡ name) × IsNumberedAfter last.call next
-next-created catalog last name arguments row next known is =
-    let on = subst (GoesOn last (new_row name arguments)) is (sends-due-goes last (new_row name arguments) (new_row name arguments) refl) in (
-      record {
-        is = λ kept is_open. by kept (on.opened kept is_open);
-        new = λ call named. next-unnoted catalog last.call call known (on.after call named);
-      },
-      on.name,
-      on.after,
-    )
-  where
-    by : (kept : OpenCall) → (◌≡◌ {A = Option OpenCall} None (Some kept)) ⊎ (outgoing_call_number next ≡ Some kept.number.call) → outgoing_call_number next ≡ Some kept.number.call
-    by kept (inl none) = absurd (none-some kept none)
-    by kept (inr named) = named
+next-created catalog last name arguments row next known is = grind (arith, sends-due-goes, next-unnoted, none-some)

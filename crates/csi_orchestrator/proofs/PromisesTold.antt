@@ -3,13 +3,13 @@ use Rattle.csi_orchestrator.proofs.Words.{◌≡◌, refl, sym, ◌∙◌, ap, s
 use Rattle.csi_orchestrator.proofs.Words.{History, with_items, IsWellFormed, Input, Restarts, Loses, Answer, Moved}
 use Rattle.csi_orchestrator.proofs.Words.{moves, moved_to, OrchestratorParts, Shows, MovedRows, IsRefusal, row_moves}
 use Rattle.csi_orchestrator.proofs.Words.{IsMoveOf, RowsAnswer, AreSteadyRowsIf, AreSoundRows, HasHistory}
-use Rattle.csi_orchestrator.proofs.Words.{AreSoundParts, IsReached, GoesOn}
+use Rattle.csi_orchestrator.proofs.Words.{AreSoundParts, IsReached, GoesOn, arith}
 use Rattle.csi_orchestrator.specs.Public.Promises.{FollowsUnrefused, IsAnsweredAs}
 use Rattle.csi_orchestrator.proofs.AddedItems.{moves-add, stays-formed}
 use Rattle.csi_orchestrator.proofs.SendingAgrees.{Tells}
 use Rattle.csi_orchestrator.proofs.RulesStay.{rows-stay-sound}
 use Rattle.csi_orchestrator.proofs.BoundsStay.{rows-stay-within}
-use Rattle.csi_orchestrator.proofs.RowsMoved.{IsRowMove, IsRefused, IsIgnored, TakesStep, PutsIn, StartsAgain, GivesUp, row-moved}
+use Rattle.csi_orchestrator.proofs.RowsMoved.{IsRowMove, row-moved}
 use Rattle.csi_orchestrator.proofs.KeptRows.{IsFitInput, rows-stay-steady, all-steady-any}
 use Rattle.csi_orchestrator.proofs.RepliesAgree.{all-tell}
 
@@ -26,10 +26,7 @@ is-done old history input moved_rows kept steady form agrees e =
 
 -- where they do, what the rows refuse is refused
 refused : (history : History) (moved_rows : Result MovedRows OrchFault) (moved : Result Moved OrchFault) (fault : OrchFault) → Tells history moved_rows moved → IsRefusal moved_rows fault → IsRefusal moved fault
-refused history (Ok moved_rows) (Ok moved) fault tells is = is
-refused history (Ok moved_rows) (Err other) fault tells is = absurd tells.0
-refused history (Err other) (Ok moved) fault tells is = absurd tells.0
-refused history (Err one) (Err other) fault tells is = is ∙ tells.0
+refused history moved_rows moved fault tells is = grind arith
 
 -- what is refused by the rows is refused
 pub is-refused : (old : OrchestratorParts) (history : History) (input : Input) (fault : OrchFault) → AreSoundRows old.rows → AreSteadyRowsIf (Unit {0}) old.rows → IsWellFormed history → Shows old history → IsRefusal (row_moves old input) fault
@@ -90,12 +87,7 @@ NodesAfter parts (Err fault) = Unit {0}
 
 -- whatever comes in a session
 moves-nodes : (parts : OrchestratorParts) (input : Input) (result : Result MovedRows OrchFault) → IsOfSession input → IsRowMove parts input result → NodesAfter parts result
-moves-nodes parts input _ plain (IsRefused fault) = tt
-moves-nodes parts input _ plain IsIgnored = refl
-moves-nodes parts input _ plain (TakesStep answer step row moved_row among of fits e) = refl
-moves-nodes parts input _ plain (PutsIn name arguments moved_row free e) = refl
-moves-nodes parts input _ plain (StartsAgain nodes is free) = absurd (subst IsOfSession is plain)
-moves-nodes parts input _ plain (GivesUp node is) = absurd (subst IsOfSession is plain)
+moves-nodes parts input result plain h = grind arith
 
 -- the nodes stay as they were shown, whatever the result
 pub nodes-promised : {R : Type 0} {old now new : OrchestratorParts} {input : Input} {says : R → Answer} {result : Result R OrchFault} → old ≡ now → AreSoundParts old → IsMoveOf old new input says result → IsOfSession input → new.nodes ≡ now.nodes
@@ -104,10 +96,7 @@ nodes-promised {old = old} {input = input} {result = Err fault} is kept told pla
 
 -- where they do, what the history answers the rows answer
 told-so : (history : History) (answer : Answer) (result : Result MovedRows OrchFault) (moved : Result Moved OrchFault) → Tells history result moved → IsAnsweredAs answer moved → RowsAnswer answer result
-told-so history answer (Ok moved_rows) (Ok moved) tells is = tells.0.0 ∙ is
-told-so history answer (Ok moved_rows) (Err fault) tells is = absurd is
-told-so history answer (Err fault) (Ok moved) tells is = absurd tells.0
-told-so history answer (Err fault) (Err other) tells is = absurd is
+told-so history answer result moved tells is = grind arith
 
 -- as a history answers, so the rows do
 pub answered-promised : {old now : OrchestratorParts} (input : Input) (answer : Answer) → old ≡ now → AreSoundParts old → (history : History) → IsWellFormed history → Shows now history

@@ -1,7 +1,7 @@
 -- Where an entry stands that was put in by its text, and that all others are as they were.
 use Rattle.csi_orchestrator.proofs.Words.{◌≡◌, ℕ, zero, suc, List, [], ◌∷◌, Bool, true, false, cond, length, take, drop}
 use Rattle.csi_orchestrator.proofs.Words.{refl, sym, ◌∙◌, ap, subst, Some, None, find, EachTwo, IsAt, FirstAt}
-use Rattle.csi_orchestrator.proofs.Words.{same_text, put_by}
+use Rattle.csi_orchestrator.proofs.Words.{same_text, put_by, arith}
 use Rattle.csi_orchestrator.proofs.Lemmas.{none-some, same_Some, each-at, find-missed, same_text-tells}
 use Rattle.csi_orchestrator.proofs.TextLists.{text-same}
 
@@ -37,10 +37,7 @@ put-at key entry [] place x first = absurd first
 put-at key entry (y ∷ ys) zero x first =
     subst (IsPutAt key entry 0 (y ∷ ys)) (sym (ap (λ b. cond b (entry ∷ ys) (y ∷ put_by key entry ys)) first.0))
     (record { first = (text-same (key entry), refl); before = refl; behind = refl; named = λ was at. sym ((same_text-tells (key y) (key entry)).0 first.0) ∙ ap key at })
-put-at key entry (y ∷ ys) (suc place) x first =
-    let rest = put-at key entry ys place x first.1 in
-    subst (IsPutAt key entry (suc place) (y ∷ ys)) (sym (ap (λ b. cond b (entry ∷ ys) (y ∷ put_by key entry ys)) first.0))
-    (record { first = (first.0, rest.first); before = ap (λ l. y ∷ l) rest.before; behind = rest.behind; named = rest.named })
+put-at key entry (y ∷ ys) (suc place) x first = grind (arith, (put-at key entry ys place x first.1))
 
 -- last, where there is none
 pub put-last : {X : Type 0} (key : X → List ℕ) (entry : X) (xs : List X) → find (λ y. same_text (key y) (key entry)) xs ≡ None → IsPutAt key entry (length xs) xs (put_by key entry xs)

@@ -1,15 +1,14 @@
 -- Why a refusal is read from the rows.
 use Rattle.csi_orchestrator.proofs.Words.{◌≡◌, ℕ, List, Bool, true, false, cond, length, arith, refl, sym, ◌∙◌, ap}
-use Rattle.csi_orchestrator.proofs.Words.{subst, Option, Some, None, is_some, is_none, not, option_and_then, nat_lt}
-use Rattle.csi_orchestrator.proofs.Words.{◌==◌, ◌&&◌, AllByRecursion, IsAmong, same_text, Exists, Attached, Published}
-use Rattle.csi_orchestrator.proofs.Words.{is_no, History, id_of, goal_of, names_of, has_row, targets_in_use, due_for}
-use Rattle.csi_orchestrator.proofs.Words.{next_number, is_session_spent, create_fault, is_for_one_node}
-use Rattle.csi_orchestrator.proofs.Words.{uses_as_second_writer, use_fault, use_room_fault, is_left_at, stop_fault}
-use Rattle.csi_orchestrator.proofs.Words.{delete_fault, delete_busy_fault, timeout_fault, RowShown, OrchestratorParts}
-use Rattle.csi_orchestrator.proofs.Words.{row_of, node_entry_of, mark_of, goal_shown, goal_in, Shows, AreSoundRows}
-use Rattle.csi_orchestrator.proofs.Words.{is_last, first_fault, again_fault, use_refusal, room_refusal, is_left}
-use Rattle.csi_orchestrator.proofs.Words.{stop_refusal, delete_refusal, busy_refusal, others_in, due_by}
-use Rattle.csi_orchestrator.proofs.Words.{AreTargetsApart}
+use Rattle.csi_orchestrator.proofs.Words.{subst, Option, Some, None, is_some, is_none, not, nat_lt, ◌==◌, ◌&&◌}
+use Rattle.csi_orchestrator.proofs.Words.{AllByRecursion, IsAmong, same_text, Exists, Attached, Published, is_no}
+use Rattle.csi_orchestrator.proofs.Words.{History, goal_of, names_of, has_row, targets_in_use, due_for, next_number}
+use Rattle.csi_orchestrator.proofs.Words.{is_session_spent, create_fault, is_for_one_node, uses_as_second_writer}
+use Rattle.csi_orchestrator.proofs.Words.{use_fault, use_room_fault, is_left_at, stop_fault, delete_fault}
+use Rattle.csi_orchestrator.proofs.Words.{delete_busy_fault, timeout_fault, RowShown, OrchestratorParts, row_of}
+use Rattle.csi_orchestrator.proofs.Words.{node_entry_of, mark_of, goal_shown, Shows, AreSoundRows, is_last}
+use Rattle.csi_orchestrator.proofs.Words.{first_fault, again_fault, use_refusal, room_refusal, is_left, stop_refusal}
+use Rattle.csi_orchestrator.proofs.Words.{delete_refusal, busy_refusal, others_in, due_by, AreTargetsApart}
 use Rattle.csi_orchestrator.proofs.Lemmas.{false≢true, nat_tests, among-find, some-found, some-has, is_some-map}
 use Rattle.csi_orchestrator.proofs.Lemmas.{then-any, any-then, same_text-tells}
 use Rattle.csi_orchestrator.specs.declared.fault.OrchFault.TheVariants as faults
@@ -54,10 +53,7 @@ names-alike parts history are agrees = as-many-as (names_of history) (λ (r : Ro
 
 -- a create
 pub create-first : (parts : OrchestratorParts) (history : History) (name : List ℕ) → AreSoundRows parts.rows → Shows parts history → row_of parts.rows name ≡ None → create_fault history name ≡ first_fault parts.last parts.rows
-create-first parts history name are agrees e =
-    let no_id : id_of history name ≡ None = sym (agrees.same_ids name) ∙ ap (option_and_then (λ (r : RowShown). r.id)) e in
-    let no_goal : goal_of history name ≡ None = sym (agrees.same_goals name) ∙ ap (option_and_then goal_in) e in
-    rw (no_id, no_goal, spent-alike parts history agrees, unknown parts history name agrees e, names-alike parts history are agrees) refl
+create-first parts history name are agrees e = grind (arith, spent-alike, unknown, names-alike)
 
 -- a create of a name that has a row is refused as the row tells
 pub create-again : (parts : OrchestratorParts) (history : History) (name : List ℕ) (row : RowShown) → AreSoundRows parts.rows → Shows parts history → row_of parts.rows name ≡ Some row → create_fault history name ≡ again_fault parts.last row

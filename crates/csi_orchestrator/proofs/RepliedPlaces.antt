@@ -4,10 +4,9 @@ use Rattle.csi_orchestrator.proofs.Words.{Some, None, position, slice_get, Resul
 use Rattle.csi_orchestrator.proofs.Words.{Kind, Party, Body, Number, Reply, Frame, EachTwo, IsAt, FirstAt, same_text}
 use Rattle.csi_orchestrator.proofs.Words.{Ignored, OrchFault, OrchestratorCore, Row, Step, rows_of}
 use Rattle.csi_orchestrator.proofs.Words.{orchestrator_parts_shown, IsDueSuccess, Input, Comes, Answer, Hears, hears}
-use Rattle.csi_orchestrator.proofs.Words.{RowShown, OrchestratorParts, row_of, open_in_row, row_shown, MovedRow}
-use Rattle.csi_orchestrator.proofs.Words.{row_step, moved_rows, IsRefusal, outgoing_frame, all_rows_moved, steps_at}
-use Rattle.csi_orchestrator.proofs.Words.{is_issued_as, step_heard, hears_reply, receives, row_moves, RowsAnswer}
-use Rattle.csi_orchestrator.proofs.Words.{IsMoveOf, AreSoundRows}
+use Rattle.csi_orchestrator.proofs.Words.{RowShown, OrchestratorParts, row_of, open_in_row, row_shown, moved_rows}
+use Rattle.csi_orchestrator.proofs.Words.{IsRefusal, steps_at, is_issued_as, step_heard, hears_reply, receives}
+use Rattle.csi_orchestrator.proofs.Words.{row_moves, RowsAnswer, IsMoveOf, AreSoundRows, arith}
 use Rattle.csi_orchestrator.proofs.Lemmas.{same_Some, position-first, same_text-tells}
 use Rattle.csi_types.specs.declared.frame.Body.TheVariants as bodies
 use Rattle.csi_orchestrator.proofs.RowsByName.{row-at, shown-there}
@@ -80,12 +79,4 @@ told-at_err old new input says (Err other) fault is refused same = record { ok =
 
 -- what is told by a step isn't ignored
 pub never-ignored : (parts : OrchestratorParts) (step : Step) (o : Option RowShown) → RowsAnswer (Hears Ignored) (steps_at parts hears step o) → ⊥
-never-ignored parts step None told = told
-never-ignored parts step (Some row) told = by (row_step parts.nodes parts.last step row) told
-  where
-    clash : (frame : Option Frame) → hears frame ≡ Hears Ignored → ⊥
-    clash frame e = cc
-
-    by : (r : Result MovedRow OrchFault) → RowsAnswer (Hears Ignored) (all_rows_moved parts hears r) → ⊥
-    by (Ok moved_row) is = clash (outgoing_frame moved_row.outgoing) is
-    by (Err fault) is = is
+never-ignored parts step o told = grind arith

@@ -4,7 +4,7 @@ use Rattle.csi_orchestrator.proofs.Words.{option_and_then, find, ◌&&◌, Kind,
 use Rattle.csi_orchestrator.proofs.Words.{same_number, same_party, same_kind, OpenCall, Issued, History, open_call}
 use Rattle.csi_orchestrator.proofs.Words.{issued_in, call_replied, is_number_open, IsWellFormed, Due, call_for}
 use Rattle.csi_orchestrator.proofs.Words.{RowShown, OrchestratorParts, row_of, goal_in, issued_as, open_in_row, Shows}
-use Rattle.csi_orchestrator.proofs.Words.{due_open, is_issued_as, row_replied, AreSoundRows}
+use Rattle.csi_orchestrator.proofs.Words.{due_open, is_issued_as, row_replied, AreSoundRows, arith}
 use Rattle.csi_orchestrator.proofs.Lemmas.{and_parts, and_from, false≢true, false_from_ne_true, among-find, none_passes}
 use Rattle.csi_orchestrator.proofs.Lemmas.{find-passes, find-one, find-none, none-some, same_text-tells}
 use Rattle.csi_orchestrator.proofs.Lemmas.{same_number-tells, same_party-tells, same_kind-tells}
@@ -24,14 +24,7 @@ pub record IsCall (number : Number) (party : Party) (kind : Kind) (issued : Issu
 
 -- a call that passes the test has this number, party and kind
 such-call : (number : Number) (party : Party) (kind : Kind) (issued : Issued) → is-call number party kind issued ≡ true → IsCall number party kind issued
-such-call number party kind issued e =
-    let last = and_parts (same_number issued.number number && same_party issued.party party) (same_kind (kind_of issued.call) kind) e in
-    let first = and_parts (same_number issued.number number) (same_party issued.party party) last.0 in
-    record {
-      has_number = (same_number-tells issued.number number).0 first.0;
-      has_party = (same_party-tells issued.party party).0 first.1;
-      has_kind = (same_kind-tells (kind_of issued.call) kind).0 last.1;
-    }
+such-call number party kind issued e = grind (arith, and_parts, same_number-tells, same_party-tells, same_kind-tells)
 
 -- what passes the test is an open call
 that-passes : (number : Number) (party : Party) (kind : Kind) (o : Option Issued) → is_issued_as number party kind o ≡ true → (issued : Issued) × (o ≡ Some issued) × (is-call number party kind issued ≡ true)

@@ -3,19 +3,19 @@ use Rattle.csi_orchestrator.proofs.Words.{◌≡◌, ℕ, List, [], ◌∷◌, B
 use Rattle.csi_orchestrator.proofs.Words.{Option, Some, None, ◌==◌, ◌&&◌, is_none, option_map, option_and_then, Result}
 use Rattle.csi_orchestrator.proofs.Words.{Ok, Err, Kind, Party, Body, Number, Reply, kind_of, Frame, is_ok_status}
 use Rattle.csi_orchestrator.proofs.Words.{same_text, Ignored, OrchFault, Goal, OpenCall, Create, Use, Stop, Delete}
-use Rattle.csi_orchestrator.proofs.Words.{Usage, Issued, Item, Accepted, Noted, History, with_items, goal_of, open_call}
-use Rattle.csi_orchestrator.proofs.Words.{tries, IsWellFormed, timeout_fault, Due, call_for, Input, ToCreate, ToUse}
+use Rattle.csi_orchestrator.proofs.Words.{Usage, Issued, Item, Accepted, Noted, History, with_items, goal_of}
+use Rattle.csi_orchestrator.proofs.Words.{open_call, tries, IsWellFormed, timeout_fault, Due, Input, ToCreate, ToUse}
 use Rattle.csi_orchestrator.proofs.Words.{ToStop, ToDelete, TimesOut, Comes, Restarts, Loses, Answer, Sends, Hears}
 use Rattle.csi_orchestrator.proofs.Words.{Moved, send_due, is_forward, is_forward_due, undoing_goal, closing, timeout}
 use Rattle.csi_orchestrator.proofs.Words.{hears, call_replied, heard, heard_refusal, deliver, moves, OrchestratorView}
 use Rattle.csi_orchestrator.proofs.Words.{Agrees, after_accepted, after_closed, after_noted, RowShown}
-use Rattle.csi_orchestrator.proofs.Words.{OrchestratorParts, row_of, goal_in, goal_shown, held_on_node, open_in_row}
-use Rattle.csi_orchestrator.proofs.Words.{issued_as, orchestrator_view, Shows, closed, due_in, kind_due, succeeded_row}
+use Rattle.csi_orchestrator.proofs.Words.{OrchestratorParts, row_of, goal_shown, held_on_node, open_in_row, issued_as}
+use Rattle.csi_orchestrator.proofs.Words.{orchestrator_view, Shows, closed, due_in, kind_due, succeeded_row}
 use Rattle.csi_orchestrator.proofs.Words.{wanted_row, stopped_goal, idle_refusal, MovedRow, row_sends_due, row_rests}
 use Rattle.csi_orchestrator.proofs.Words.{row_unless, waits_for, is_given_up, timed_out, failed, MovedRows, moved_rows}
 use Rattle.csi_orchestrator.proofs.Words.{all_rows_moved, steps_at, row_replied, is_issued_as, hears_reply, receives}
 use Rattle.csi_orchestrator.proofs.Words.{row_moves, AreSteadyRowsIf, IsSoundRow, AreSoundRows, AreGuarded, RowsTell}
-use Rattle.csi_orchestrator.proofs.Words.{MovesAreGuarded}
+use Rattle.csi_orchestrator.proofs.Words.{MovesAreGuarded, arith}
 use Rattle.csi_orchestrator.proofs.Lemmas.{false≢true, and_parts, same_Some, none-some, find-passes}
 use Rattle.csi_types.specs.declared.frame.Body.TheVariants as bodies
 use Rattle.csi_orchestrator.specs.declared.fault.OrchFault.TheVariants as faults
@@ -39,27 +39,15 @@ use Rattle.csi_orchestrator.proofs.CommandsAgree.{AreRight, IsFound, own-kept, o
 
 -- a forward call is due for a use
 forward-goal : (row : RowShown) (due : Due) → IsDueFor row due → is_forward due.call ≡ true → (usage : Usage) × (row.goal ≡ Some (Use usage))
-forward-goal row _ (ToAttach usage id goal own a) forward = (usage, goal)
-forward-goal row _ (ToStage usage id goal own a s) forward = (usage, goal)
-forward-goal row _ (ToPublish usage id goal own a s p) forward = (usage, goal)
-forward-goal row _ other forward = absurd (false≢true forward)
+forward-goal row due other forward = grind (arith, false≢true)
 
 -- where a forward call is due for a row, its goal is a use
 forward-due : (row : RowShown) → is_forward_due (due_in row) ≡ true → (usage : Usage) × (row.goal ≡ Some (Use usage))
-forward-due row forward = by (due_in row) refl forward
-  where
-    by : (o : Option Due) → due_in row ≡ o → is_forward_due o ≡ true → (usage : Usage) × (row.goal ≡ Some (Use usage))
-    by None e f = absurd (false≢true f)
-    by (Some due) e f = forward-goal row due (due-cases row due e) f
+forward-due row forward = grind (arith, false≢true, forward-goal, due-cases)
 
 -- an open call is of its row's name
 open-name : (row : RowShown) (o : Option OpenCall) (issued : Issued) → option_and_then (issued_as row) o ≡ Some issued → issued.name ≡ row.name
-open-name row None issued e = absurd (none-some issued e)
-open-name row (Some open_call) issued e = by (call_for row.name (goal_in row) row.id open_call.kind) e
-  where
-    by : (d : Option Due) → option_map (issued-by row.name open_call.number) d ≡ Some issued → issued.name ≡ row.name
-    by None e = absurd (none-some issued e)
-    by (Some due) e = sym (ap (λ (i : Issued). i.name) (same_Some (issued-by row.name open_call.number due) issued e))
+open-name row o issued e = grind (arith, none-some, issued-by, same_Some)
 
 -- its call was closed, by a timeout or by a refusal: it tells what is shown after these items
 record IsClosed (parts : OrchestratorParts) (history : History) (name : List ℕ) (row : RowShown) (items : List Item) : Type 0 where
@@ -75,19 +63,7 @@ record IsClosed (parts : OrchestratorParts) (history : History) (name : List ℕ
 -- the due call may be sent, or that of a stopped use
 closed-ready : (parts : OrchestratorParts) (history : History) (name : List ℕ) (row : RowShown) (items : List Item) → IsFound parts history name row → (c : IsClosed parts history name row items)
     → IsReady parts history name (closed row) c.view items
-closed-ready parts history name row items at c =
-    record {
-      form = c.form;
-      agrees = c.agrees;
-      reads = c.reads;
-      others = c.others;
-      same_nodes = c.same_nodes;
-      same_last = c.same_last;
-      old_last = sym ((at.right).agrees).same_last;
-      quiet = sym (c.reads).open_calls;
-      may_send = closed-may row (own-kept parts history name row at);
-      guarded = c.guarded;
-    }
+closed-ready parts history name row items at c = grind (arith, closed-may, own-kept)
 
 -- the rows tell the same as the history where a use, whose call was closed, becomes a stop
 use-stops : (parts : OrchestratorParts) (history : History) (name : List ℕ) (row : RowShown) (items : List Item) (usage : Usage) (answer : Option Frame → Answer) → IsFound parts history name row → IsClosed parts history name row items

@@ -7,11 +7,10 @@ use Rattle.csi_orchestrator.proofs.Words.{Started, Lost, Forgotten, Sent, Accept
 use Rattle.csi_orchestrator.proofs.Words.{newest, since, is_forgetting, lifetime, ends, issued_in, issued_since}
 use Rattle.csi_orchestrator.proofs.Words.{has_success, known_by, known, id_in, id_by, id_of, open_in, open_call}
 use Rattle.csi_orchestrator.proofs.Words.{is_number_of, calls_since, AreWellFormed, IsWellFormed, OrchestratorView}
-use Rattle.csi_orchestrator.proofs.Words.{Agrees, after_accepted, known_by_success, id_brought}
+use Rattle.csi_orchestrator.proofs.Words.{Agrees, after_accepted, known_by_success, id_brought, arith}
 use Rattle.csi_orchestrator.proofs.Lemmas.{false≢true, false_from_ne_true, among-find, among-kept, among-append}
 use Rattle.csi_orchestrator.proofs.Lemmas.{find-passes, find-filter, alike, then-any, any-none, same_Some, none-some}
 use Rattle.csi_orchestrator.proofs.Lemmas.{same_text-tells, same_number-tells}
-use Rattle.csi_types.specs.declared.call.Call.TheVariants as calls
 use Rattle.csi_orchestrator.proofs.Numbers.{other-number, sent-before, one-call, unless-some, open-sent, open-silent, unused-closed}
 use Rattle.csi_orchestrator.proofs.SinceItems.{ends-break, forgets-break, split-issued, since-sent, open-since, filter-in-front, found-in-front}
 use Rattle.csi_orchestrator.proofs.ViewsFollow.{touches-name, latest, known-quiet, ids-quiet, no-id, number-same, unless-follows, and-false}
@@ -89,16 +88,7 @@ latest-touching began name items call thing form e of =
 -- the id that a success brings
 id-brought : (items : List Item) (issued : Issued) (call : Call) (status : Status) (id : Option ℕ) → is_ok_status status ≡ true → filter_map (id_in issued.number) items ≡ []
     → id_by (Accepted issued.number status id ∷ items) issued call ≡ id_brought call id
-id-brought items issued (calls.CreateVolume name required limit capabilities) status id fine none =
-    ap (λ b. newest (cons_option (cond (b && is_ok_status status) id None) (filter_map (id_in issued.number) items))) (number-same issued.number)
-    ∙ ap (λ b. newest (cons_option (cond b id None) (filter_map (id_in issued.number) items))) fine
-    ∙ ap (λ xs. newest (cons_option id xs)) none ∙ by id
-  where
-    by : (o : Option ℕ) → newest (cons_option o []) ≡ o
-    by None = refl
-    by (Some x) = refl
-id-brought items issued (calls.DeleteVolume volume) status id fine none = refl
-id-brought items issued call status id fine none = refl
+id-brought items issued call status id fine none = grind (arith, number-same)
 
 -- a reply is taken
 pub accepted-follows : (view : OrchestratorView) (history : History) (issued : Issued) (status : Status) (id : Option ℕ) → IsWellFormed history → Agrees view history → open_call history issued.name ≡ Some issued

@@ -1,15 +1,12 @@
 -- Where a use or a delete is answered with no call, it is so already, and all stays as it was.
-use Rattle.csi_orchestrator.proofs.Words.{◌≡◌, ℕ, List, false, cond, refl, sym, ◌∙◌, ap, subst, Option, Some, None}
-use Rattle.csi_orchestrator.proofs.Words.{is_none, option_and_then, Result, Ok, Err, IfOk, FirstAt, Number, Frame}
-use Rattle.csi_orchestrator.proofs.Words.{same_text, OrchFault, Usage, Delete, Outgoing, Step, next_number, Due, Input}
-use Rattle.csi_orchestrator.proofs.Words.{ToUse, ToDelete, Sends, RowShown, OrchestratorParts, row_of, is_no}
-use Rattle.csi_orchestrator.proofs.Words.{marks_of_volume, delete_due, due_in, MovedRows, closed, wanted_row, put}
-use Rattle.csi_orchestrator.proofs.Words.{outgoing_frame, last_after, parts_after, all_rows_moved, steps_at, row_moves}
-use Rattle.csi_orchestrator.proofs.Words.{IsMoveOf, is_attached_somewhere, delete_refusal, step_refusal, late_refusal}
-use Rattle.csi_orchestrator.proofs.Words.{MovedRow, outgoing_by, row_moved, row_sends_due, row_rests, row_unless}
-use Rattle.csi_orchestrator.proofs.Words.{is_step_met, waits, row_before_call, row_takes, row_step}
+use Rattle.csi_orchestrator.proofs.Words.{◌≡◌, ℕ, List, false, refl, sym, ◌∙◌, ap, subst, Option, Some, None, is_none}
+use Rattle.csi_orchestrator.proofs.Words.{Result, Ok, Err, IfOk, FirstAt, Number, Frame, same_text, OrchFault, Usage}
+use Rattle.csi_orchestrator.proofs.Words.{Outgoing, Step, Due, Input, ToUse, ToDelete, Sends, RowShown}
+use Rattle.csi_orchestrator.proofs.Words.{OrchestratorParts, row_of, due_in, MovedRows, put, outgoing_frame}
+use Rattle.csi_orchestrator.proofs.Words.{last_after, parts_after, all_rows_moved, steps_at, row_moves, IsMoveOf}
+use Rattle.csi_orchestrator.proofs.Words.{step_refusal, MovedRow, outgoing_by, row_moved, row_unless, is_step_met}
+use Rattle.csi_orchestrator.proofs.Words.{waits, row_before_call, row_step, arith}
 use Rattle.csi_orchestrator.proofs.Lemmas.{false≢true}
-use Rattle.csi_orchestrator.specs.declared.fault.OrchFault.TheVariants as faults
 use Rattle.csi_orchestrator.specs.declared.step.Step.TheVariants as steps
 use Rattle.csi_orchestrator.proofs.DueAfterStep.{due-used}
 use Rattle.csi_orchestrator.proofs.DueCases.{removing}
@@ -32,23 +29,12 @@ unless-rests row (Some fault) moved rests = tt
 
 -- where a call is due, one is sent
 sends-some : (row then : RowShown) (due : Option Due) (number : Option Number) → is_none due ≡ false → RowRests row (row_moved then (outgoing_by due number))
-sends-some row then None number some = absurd (false≢true (sym some))
-sends-some row then (Some due) None some = tt
-sends-some row then (Some due) (Some number) some = λ none. absurd (clash _ none)
-  where
-    clash : (next : Outgoing) → Some next ≡ None → ⊥
-    clash next e = cc
+sends-some row then due number some = grind (arith, false≢true)
 
 -- a step for which a call is due unless it is met
 step-rests : (nodes : List (List ℕ)) (last : Number) (step : Step) (row : RowShown) → waits step row ≡ false
     → (step_refusal nodes last step row ≡ None → is_step_met step row ≡ false → is_none (due_in (row_before_call step row)) ≡ false) → RowRests row (row_step nodes last step row)
-step-rests nodes last step row goes due =
-    unless-rests row (step_refusal nodes last step row) (row_takes last step row)
-    (λ free.
-    by_if (RowRests row) (is_step_met step row) (row_rests row) _ (λ met none. refl)
-    (λ unmet. by_if (RowRests row) (waits step row) (row_rests (closed row)) _ (λ stays. absurd (false≢true (sym goes ∙ stays)))
-    (λ sends. unless-rests row (late_refusal last step row) (row_sends_due last (row_before_call step row))
-    (λ roomy. sends-some row (row_before_call step row) (due_in (row_before_call step row)) (next_number last) (due free unmet)))))
+step-rests nodes last step row goes due = grind (arith, unless-rests, by_if, false≢true, sends-some)
 
 -- a use
 use-rests : (nodes : List (List ℕ)) (last : Number) (usage : Usage) (row : RowShown) → RowRests row (row_step nodes last (steps.Use usage) row)
@@ -56,15 +42,7 @@ use-rests nodes last usage row = step-rests nodes last (steps.Use usage) row ref
 
 -- a delete: what has an id and may be there has its deletion due
 delete-rests : (nodes : List (List ℕ)) (last : Number) (row : RowShown) → RowRests row (row_step nodes last steps.Delete row)
-delete-rests nodes last row = step-rests nodes last steps.Delete row refl (λ free unmet. by row.id refl free unmet)
-  where
-    there : (fault : OrchFault) → Some fault ≡ None → ⊥
-    there fault e = cc
-
-    by : (id : Option ℕ) → row.id ≡ id → delete_refusal row ≡ None → is_no row.exists ≡ false → is_none (due_in (wanted_row Delete row)) ≡ false
-    by None is free unmet = absurd (there faults.NotCreated (sym (ap (λ o. cond (is_none o) (Some faults.NotCreated) (cond (is_attached_somewhere row) (Some faults.InUse) None)) is) ∙ free))
-    by (Some id) is free unmet =
-        ap (λ o. is_none (option_and_then (delete_due (marks_of_volume row)) o)) is ∙ ap (λ b. is_none (cond b None (Some (removing id)))) unmet
+delete-rests nodes last row = grind (arith, step-rests, removing)
 
 -- ---- all rows
 

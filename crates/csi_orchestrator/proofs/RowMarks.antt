@@ -7,7 +7,7 @@ use Rattle.csi_orchestrator.proofs.Words.{marks_marked, HasEntry, MayBeWanted, A
 use Rattle.csi_orchestrator.proofs.Words.{Publication, aspect_of, node_marked, marked_at, at_goal, exists_marked}
 use Rattle.csi_orchestrator.proofs.Words.{nodes_marked, marked_row, NodeEntryShown, RowShown, node_entry_of}
 use Rattle.csi_orchestrator.proofs.Words.{target_entry_of, mark_in, publication_known, mark_of, held_on_node, held_at}
-use Rattle.csi_orchestrator.proofs.Words.{others_in, marks_of_volume, marks_at, marks_for}
+use Rattle.csi_orchestrator.proofs.Words.{others_in, marks_of_volume, marks_at, marks_for, arith}
 use Rattle.csi_orchestrator.proofs.Lemmas.{false≢true, same_Some, same_text-tells}
 use Rattle.csi_orchestrator.proofs.TextLists.{text-same}
 use Rattle.csi_orchestrator.proofs.DueCases.{IsDueFor, ToMake, ToRemove, ToAttach, ToStage, ToPublish, ToUnpublish, ToUnstage, ToDetach}
@@ -18,9 +18,7 @@ use Rattle.csi_orchestrator.proofs.KeyedSearches.{find-change}
 -- a reading that the change leaves
 unread : {R : Type 0} (read : Option NodeEntryShown → R) (change : NodeEntryShown → NodeEntryShown) (b : Bool) (o : Option NodeEntryShown) → ((node_entry : NodeEntryShown) → read (Some (change node_entry)) ≡ read (Some node_entry))
     → read (cond b (option_map change o) o) ≡ read o
-unread read change true None same = refl
-unread read change true (Some node_entry) same = same node_entry
-unread read change false o same = refl
+unread read change b o same = grind arith
 
 -- a reading that it sets, where there is an entry
 reset : (read : Option NodeEntryShown → Known) (change : NodeEntryShown → NodeEntryShown) (mark : Known) (b : Bool) (o : Option NodeEntryShown) → ((node_entry : NodeEntryShown) → read (Some (change node_entry)) ≡ mark)

@@ -1,18 +1,19 @@
 -- What holds of a row after it was changed.
 use Rattle.csi_orchestrator.proofs.Words.{◌≡◌, ℕ, List, Bool, false, cond, not, map, refl, sym, ◌∙◌, ap, subst, Option}
-use Rattle.csi_orchestrator.proofs.Words.{Some, None, option_map, find, ◌&&◌, AllByRecursion, list_any, Kind, Number}
+use Rattle.csi_orchestrator.proofs.Words.{Some, None, option_map, ◌&&◌, AllByRecursion, list_any, Kind, Number}
 use Rattle.csi_orchestrator.proofs.Words.{kind_of, same_text, Goal, Create, Use, Stop, Delete, TargetEntry, Usage}
-use Rattle.csi_orchestrator.proofs.Words.{Known, No, Maybe, is_no, Held, is_for_one_node, uses_as_second_writer, Due}
+use Rattle.csi_orchestrator.proofs.Words.{Known, Maybe, is_no, Held, is_for_one_node, uses_as_second_writer, Due}
 use Rattle.csi_orchestrator.proofs.Words.{NodeEntryShown, RowShown, node_entry_of, target_entry_of, held_at}
 use Rattle.csi_orchestrator.proofs.Words.{AreTargetsApart, closed, due_by, due_in, Aspect, Existence, Publication}
 use Rattle.csi_orchestrator.proofs.Words.{aspect_of, node_marked, marked_at, at_goal, exists_marked, nodes_marked}
 use Rattle.csi_orchestrator.proofs.Words.{marked_row, row_once_sent, known_by_success_of, succeeded_row, wanted_row}
 use Rattle.csi_orchestrator.proofs.Words.{is_target_kept, with_kept_targets, is_node_kept, dropped_row, stopped_goal}
 use Rattle.csi_orchestrator.proofs.Words.{is_so_elsewhere, change_by, AreNodesApart, IsUsable, MayBeWanted, IsSoundRow}
+use Rattle.csi_orchestrator.proofs.Words.{arith}
 use Rattle.csi_orchestrator.proofs.Lemmas.{two-filter, none-some, each-filter, each-map, same_text-tells}
 use Rattle.csi_types.specs.declared.call.Kind.TheVariants as kinds
 use Rattle.csi_orchestrator.proofs.TextLists.{text-same}
-use Rattle.csi_orchestrator.proofs.DueCases.{IsDueFor, due-cases, spelled, ToMake, ToRemove, ToAttach, ToStage, ToPublish, ToUnpublish, ToUnstage, ToDetach}
+use Rattle.csi_orchestrator.proofs.DueCases.{IsDueFor, due-cases, spelled}
 use Rattle.csi_orchestrator.proofs.RowMarks.{has-entry}
 use Rattle.csi_orchestrator.proofs.RowsAfterSending.{due-stays}
 use Rattle.csi_orchestrator.proofs.KeyedSearches.{find-change}
@@ -57,18 +58,12 @@ mild-marked mark aspect target =
 
 -- such a change of a node's entry leaves each node and target its one entry
 distinct-change : (node target : List ℕ) (change : NodeEntryShown → NodeEntryShown) (entries : List NodeEntryShown) → IsMild target change → AreDistinct entries → AreDistinct (change_by (λ (entry : NodeEntryShown). entry.node) node change entries)
-distinct-change node target change entries mild distinct =
-    record {
-      nodes = apart-change (λ (entry : NodeEntryShown). entry.node) node change entries mild.same_node distinct.nodes;
-      targets = each-change AreTargetsApart (λ (entry : NodeEntryShown). entry.node) node change entries mild.still_apart distinct.targets;
-    }
+distinct-change node target change entries mild distinct = grind (arith, apart-change, each-change)
 
 -- a change at the node and the target of a goal does, if it does at every node and target
 distinct-at : (change : List ℕ → List ℕ → List NodeEntryShown → List NodeEntryShown) → ((node target : List ℕ) (entries : List NodeEntryShown) → AreDistinct entries → AreDistinct (change node target entries))
     → (goal : Option Goal) (entries : List NodeEntryShown) → AreDistinct entries → AreDistinct (at_goal change goal entries)
-distinct-at change keeps (Some (Use usage)) entries distinct = keeps usage.node usage.target entries distinct
-distinct-at change keeps (Some (Stop node target)) entries distinct = keeps node target entries distinct
-distinct-at change keeps goal entries distinct = distinct
+distinct-at change keeps goal entries distinct = grind arith
 
 -- so does each mark that is set for a goal: at its entry, among the entries, and in the row
 at-goal-distinct : (mark : Known) (aspect : Aspect) (goal : Option Goal) (entries : List NodeEntryShown) → AreDistinct entries → AreDistinct (at_goal (marked_at mark aspect) goal entries)
@@ -85,29 +80,11 @@ marked-distinct mark kind row distinct = nodes-distinct mark (aspect_of kind) ro
 
 -- what is wanted of a row may be wanted of one with the same marks
 usable-alike : (row other : RowShown) (usage : Usage) → other.exists ≡ row.exists → other.node_entries ≡ row.node_entries → IsUsable row usage → IsUsable other usage
-usable-alike row other usage exists entries usable =
-    record {
-      made = exists ∙ usable.made;
-      entry =
-          record {
-            node_entry = usable.entry.node_entry;
-            target_entry = usable.entry.target_entry;
-            at_node = ap (find (λ (entry : NodeEntryShown). same_text entry.node usage.node)) entries ∙ usable.entry.at_node;
-            at_target = usable.entry.at_target;
-            same_capability = usable.entry.same_capability;
-            same_flag = usable.entry.same_flag;
-          };
-      shared = ap (list_any (is_so_elsewhere (is_for_one_node usage) usage.node)) entries ∙ usable.shared;
-      one_writer = ap (list_any (is_so_elsewhere (uses_as_second_writer usage) usage.node)) entries ∙ usable.one_writer;
-    }
+usable-alike row other usage exists entries usable = grind arith
 
 -- whatever goal it is
 pub wanted-alike : (row other : RowShown) (goal : Option Goal) → other.id ≡ row.id → other.exists ≡ row.exists → other.node_entries ≡ row.node_entries → MayBeWanted row goal → MayBeWanted other goal
-wanted-alike row other None id exists entries may = tt
-wanted-alike row other (Some Create) id exists entries may = id ∙ may
-wanted-alike row other (Some (Use usage)) id exists entries may = usable-alike row other usage exists entries may
-wanted-alike row other (Some (Stop node target)) id exists entries may = tt
-wanted-alike row other (Some Delete) id exists entries may = subst (AllByRecursion (λ (entry : NodeEntryShown). entry.attached ≡ No)) (sym entries) may
+wanted-alike row other goal id exists entries may = grind (arith, usable-alike)
 
 -- what is at this node isn't elsewhere
 pub here : (so : Held → Bool) (node : List ℕ) (entry : NodeEntryShown) → entry.node ≡ node → is_so_elsewhere so node entry ≡ false
@@ -155,14 +132,7 @@ FitsGoal (Some Delete) kind = kind ≡ kinds.DeleteVolume
 
 -- the kind of a row's due call fits its goal
 fits : (row : RowShown) (due : Due) → IsDueFor row due → FitsGoal row.goal (kind_of due.call)
-fits row _ (ToMake goal e) = subst (λ g. FitsGoal g kinds.CreateVolume) (sym goal) refl
-fits row _ (ToRemove id goal own e) = subst (λ g. FitsGoal g kinds.DeleteVolume) (sym goal) refl
-fits row _ (ToAttach usage id goal own a) = subst (λ g. FitsGoal g kinds.ControllerPublishVolume) (sym goal) tt
-fits row _ (ToStage usage id goal own a s) = subst (λ g. FitsGoal g kinds.NodeStageVolume) (sym goal) tt
-fits row _ (ToPublish usage id goal own a s p) = subst (λ g. FitsGoal g kinds.NodePublishVolume) (sym goal) tt
-fits row _ (ToUnpublish node target id goal own p) = subst (λ g. FitsGoal g kinds.NodeUnpublishVolume) (sym goal) tt
-fits row _ (ToUnstage node target id goal own p o s) = subst (λ g. FitsGoal g kinds.NodeUnstageVolume) (sym goal) tt
-fits row _ (ToDetach node target id goal own p o s a) = subst (λ g. FitsGoal g kinds.ControllerUnpublishVolume) (sym goal) tt
+fits row due h = grind arith
 
 -- the same of the call that is due
 pub due-fits-goal : (row : RowShown) (due : Due) → due_in row ≡ Some due → FitsGoal row.goal (kind_of due.call)
@@ -177,11 +147,7 @@ usable-marked mark aspect row usage e fits usable =
 
 -- what is wanted may be wanted still, once a mark is set by a call that fits it
 wanted-marked : (mark : Known) (kind : Kind) (row : RowShown) (goal : Option Goal) → row.goal ≡ goal → FitsGoal goal kind → MayBeWanted row goal → MayBeWanted (marked_row mark kind row) goal
-wanted-marked mark kind row None e fits may = tt
-wanted-marked mark kind row (Some Create) e fits may = may
-wanted-marked mark kind row (Some (Use usage)) e fits may = usable-marked mark (aspect_of kind) row usage e fits may
-wanted-marked mark kind row (Some (Stop node target)) e fits may = tt
-wanted-marked mark kind row (Some Delete) e fits may = subst (λ k. AllByRecursion (λ (entry : NodeEntryShown). entry.attached ≡ No) (marked_row mark k row).node_entries) (sym fits) may
+wanted-marked mark kind row goal e fits may = grind (arith, usable-marked, fits)
 
 -- the due call is sent
 pub kept-sent : (number : Number) (row : RowShown) (due : Due) → due_in row ≡ Some due → AreDistinct row.node_entries → MayBeWanted row row.goal → IsSoundRow (row_once_sent number (kind_of due.call) row)
@@ -215,20 +181,13 @@ kept-dropped row distinct =
 
 -- a use that didn't come about is stopped
 pub wanted-stopped : (row : RowShown) (goal : Goal) → MayBeWanted row (Some goal) → MayBeWanted (wanted_row (stopped_goal goal) row) (Some (stopped_goal goal))
-wanted-stopped row Create may = may
-wanted-stopped row (Use usage) may = tt
-wanted-stopped row (Stop node target) may = tt
-wanted-stopped row Delete may = may
+wanted-stopped row goal may = grind arith
 
 -- the goal's call succeeded: where something is due still, it may be wanted still
 pub wanted-succeeded : (kind : Kind) (id : Option ℕ) (row : RowShown) (goal : Option Goal) (due : Due) → row.goal ≡ goal → FitsGoal goal kind → MayBeWanted row goal
     → due_by (succeeded_row kind id row) goal ≡ Some due → MayBeWanted (succeeded_row kind id row) goal
 wanted-succeeded kind id row None due e fits may next = tt
-wanted-succeeded kind id row (Some Create) due e fits may next =
-    absurd (clash (sym (ap (λ k. due_by (succeeded_row k id row) (Some Create)) fits) ∙ next))
-  where
-    clash : None ≡ Some due → ⊥
-    clash h = cc
+wanted-succeeded kind id row (Some Create) due e fits may next = grind (arith, fits)
 wanted-succeeded kind id row (Some (Use usage)) due e fits may next =
     usable-alike (marked_row (known_by_success_of kind) kind row) (succeeded_row kind id row) usage refl refl (usable-marked (known_by_success_of kind) (aspect_of kind) row usage e fits may)
 wanted-succeeded kind id row (Some (Stop node target)) due e fits may next = tt

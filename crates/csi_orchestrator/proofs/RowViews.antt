@@ -1,12 +1,12 @@
 -- Why what is shown agrees with a history once one row stands in place of another.
-use Rattle.csi_orchestrator.proofs.Words.{◌≡◌, ◌≢◌, ℕ, List, Bool, true, false, cond, refl, sym, ◌∙◌, ap, subst, Option}
-use Rattle.csi_orchestrator.proofs.Words.{Some, is_some, option_map, option_and_then, Number, Status, is_ok_status}
-use Rattle.csi_orchestrator.proofs.Words.{same_text, Thing, Attached, No, Maybe, Issued, name_in, touches, Arguments}
-use Rattle.csi_orchestrator.proofs.Words.{History, nodes_of, known, id_of, goal_of, arguments_of, held, open_call}
-use Rattle.csi_orchestrator.proofs.Words.{tries, last_number, has_row, OrchestratorView, Agrees, after_sent}
-use Rattle.csi_orchestrator.proofs.Words.{after_accepted, after_closed, after_noted, RowShown, OrchestratorParts}
-use Rattle.csi_orchestrator.proofs.Words.{row_of, mark_in, mark_of, goal_in, held_on_node, open_in_row, tries_in}
-use Rattle.csi_orchestrator.proofs.Words.{orchestrator_view, Shows, put}
+use Rattle.csi_orchestrator.proofs.Words.{◌≡◌, ◌≢◌, ℕ, List, Bool, true, false, cond, refl, sym, ◌∙◌, ap, subst}
+use Rattle.csi_orchestrator.proofs.Words.{Option, Some, is_some, option_map, option_and_then, Number, Status}
+use Rattle.csi_orchestrator.proofs.Words.{same_text, Thing, Attached, No, Issued, name_in, touches, Arguments, History}
+use Rattle.csi_orchestrator.proofs.Words.{nodes_of, known, id_of, goal_of, arguments_of, held, open_call, tries}
+use Rattle.csi_orchestrator.proofs.Words.{last_number, has_row, OrchestratorView, Agrees, after_sent, after_accepted}
+use Rattle.csi_orchestrator.proofs.Words.{after_closed, after_noted, RowShown, OrchestratorParts, row_of, mark_in}
+use Rattle.csi_orchestrator.proofs.Words.{mark_of, goal_in, held_on_node, open_in_row, tries_in, orchestrator_view}
+use Rattle.csi_orchestrator.proofs.Words.{Shows, put, arith}
 use Rattle.csi_orchestrator.proofs.Lemmas.{find-passes, false≢true, false_from_ne_true, same_text-tells}
 use Rattle.csi_orchestrator.specs.Model.History.{Goal}
 use Rattle.csi_orchestrator.proofs.ViewsFollow.{touches-name, and-false}
@@ -62,23 +62,11 @@ untouched issued other thing differs is = false_from_ne_true _ (λ e. false≢tr
 
 -- each item changes what is shown of its own name alone
 pub same-sent : (issued : Issued) (view : OrchestratorView) (other : List ℕ) → same_text issued.name other ≡ false → SameAt (after_sent issued view) view other
-same-sent issued view other differs =
-    record {
-      rest = rw differs refl;
-      marks = λ thing is. ap (λ b. cond b Maybe (view.marks thing)) (untouched issued other thing differs is);
-      holdings = λ node. rw differs refl;
-      open_calls = rw differs refl;
-    }
+same-sent issued view other differs = grind (arith, untouched)
 
 -- a reply, a call that is given up and a goal that is noted
 pub same-accepted : (issued : Issued) (status : Status) (id : Option ℕ) (view : OrchestratorView) (other : List ℕ) → same_text issued.name other ≡ false → SameAt (after_accepted issued status id view) view other
-same-accepted issued status id view other differs =
-    record {
-      rest = rw (differs, and-false (is_ok_status status)) refl;
-      marks = λ thing is. rw (untouched issued other thing differs is, and-false (is_ok_status status)) refl;
-      holdings = λ node. refl;
-      open_calls = rw differs refl;
-    }
+same-accepted issued status id view other differs = grind (arith, and-false, untouched)
 
 -- a call that is given up changes what is shown of its own name alone
 pub same-closed : (issued : Issued) (view : OrchestratorView) (other : List ℕ) → same_text issued.name other ≡ false → SameAt (after_closed issued view) view other
@@ -140,18 +128,7 @@ put-agrees parts last name row view history reads others is_nodes is_last agrees
 
 -- the row of a name tells what is shown of it
 pub row-reads : (parts : OrchestratorParts) (name : List ℕ) (row : RowShown) → row.name ≡ name → row_of parts.rows name ≡ Some row → Reads row (orchestrator_view parts) name
-row-reads parts name row own found =
-    record {
-      own = own;
-      there = ap is_some found;
-      marks = λ thing is. sym (ap (λ n. mark_in (mark_of thing) (row_of parts.rows n)) is ∙ ap (mark_in (mark_of thing)) found);
-      ids = sym (ap (option_and_then (λ (r : RowShown). r.id)) found);
-      goals = sym (ap (option_and_then goal_in) found);
-      arguments = sym (ap (option_map (λ (r : RowShown). r.arguments)) found);
-      holdings = λ node maybe. sym (ap (option_and_then (λ (r : RowShown). held_on_node r node)) found);
-      open_calls = sym (ap (option_and_then open_in_row) found);
-      counts = sym (ap tries_in found);
-    }
+row-reads parts name row own found = grind arith
 
 -- what a history tells, as it would be shown; and a row that tells what it tells of a name
 abbrev pub told_by : History → OrchestratorView

@@ -1,16 +1,16 @@
 -- What a row tells once something was noted for it, or its call was given up.
-use Rattle.csi_orchestrator.proofs.Words.{◌≡◌, ◌≢◌, ◌++◌, ℕ, List, [], ◌∷◌, map, Bool, true, false, cond, not, refl}
-use Rattle.csi_orchestrator.proofs.Words.{sym, ◌∙◌, ap, subst, Option, Some, None, find, filter, is_some, option_map}
-use Rattle.csi_orchestrator.proofs.Words.{option_and_then, ◌&&◌, AllByRecursion, option_or, IsAmong, EachTwo, same_text}
-use Rattle.csi_orchestrator.proofs.Words.{Goal, Create, OpenCall, TargetEntry, Usage, Thing, Exists, Attached, Staged}
-use Rattle.csi_orchestrator.proofs.Words.{Published, Known, No, Issued, name_in, is_no, Arguments, arguments_in_goal}
-use Rattle.csi_orchestrator.proofs.Words.{OrchestratorView, after_accepted, after_closed, after_noted, AreNodesApart}
-use Rattle.csi_orchestrator.proofs.Words.{wanted_row, row_wanted_anew, new_row, dropped_row, is_target_kept}
-use Rattle.csi_orchestrator.proofs.Words.{is_node_kept, has_targets, with_kept_targets, with_entry, entry_for}
-use Rattle.csi_orchestrator.proofs.Words.{with_target, new_target_entry, held_as, NodeEntryShown, RowShown}
-use Rattle.csi_orchestrator.proofs.Words.{OrchestratorParts, row_of, node_entry_of, target_entry_of, mark_in}
-use Rattle.csi_orchestrator.proofs.Words.{publication_known, mark_of, held_on_node, held_at, goal_shown, open_in_row}
-use Rattle.csi_orchestrator.proofs.Words.{orchestrator_view, AreTargetsApart, closed, Status, is_ok_status}
+use Rattle.csi_orchestrator.proofs.Words.{◌≡◌, ◌≢◌, ℕ, List, [], ◌∷◌, map, Bool, true, false, cond, not, refl, sym}
+use Rattle.csi_orchestrator.proofs.Words.{◌∙◌, ap, subst, Option, Some, None, find, filter, option_map, AllByRecursion}
+use Rattle.csi_orchestrator.proofs.Words.{option_or, IsAmong, EachTwo, same_text, Goal, Create, TargetEntry, Usage}
+use Rattle.csi_orchestrator.proofs.Words.{Thing, Exists, Attached, Staged, Published, Known, No, Issued, name_in}
+use Rattle.csi_orchestrator.proofs.Words.{is_no, Arguments, arguments_in_goal, OrchestratorView, after_accepted}
+use Rattle.csi_orchestrator.proofs.Words.{after_closed, after_noted, AreNodesApart, wanted_row, row_wanted_anew}
+use Rattle.csi_orchestrator.proofs.Words.{new_row, dropped_row, is_target_kept, is_node_kept, has_targets}
+use Rattle.csi_orchestrator.proofs.Words.{with_kept_targets, with_entry, entry_for, with_target, new_target_entry}
+use Rattle.csi_orchestrator.proofs.Words.{held_as, NodeEntryShown, RowShown, OrchestratorParts, row_of, node_entry_of}
+use Rattle.csi_orchestrator.proofs.Words.{target_entry_of, mark_in, publication_known, mark_of, held_on_node, held_at}
+use Rattle.csi_orchestrator.proofs.Words.{goal_shown, open_in_row, orchestrator_view, AreTargetsApart, closed, Status}
+use Rattle.csi_orchestrator.proofs.Words.{is_ok_status, arith}
 use Rattle.csi_orchestrator.proofs.Lemmas.{false≢true, false_from_ne_true, same_Some, each_of, among-find, among-kept}
 use Rattle.csi_orchestrator.proofs.Lemmas.{in_filter, two-filter, find-map, find-append, find-passes, find-none}
 use Rattle.csi_orchestrator.proofs.Lemmas.{find-none_in_filter, option_or-some, option_or-none, same_text-tells}
@@ -29,11 +29,7 @@ own name x y = ap (λ b. cond b x y) (text-same name)
 
 -- a row without a goal has no open call
 pub no-call : (row : RowShown) → row.goal ≡ None → open_in_row row ≡ None
-no-call row e = ap (λ g. open_in_row (record row { goal = g })) e ∙ by row.open_call
-  where
-    by : (o : Option OpenCall) → open_in_row (record row { goal = None; open_call = o }) ≡ None
-    by None = refl
-    by (Some number) = refl
+no-call row e = grind arith
 
 -- its arguments are still those that are told
 arguments-wanted : (goal : Goal) (row : RowShown) (o : Option Arguments) → Some row.arguments ≡ o → Some row.arguments ≡ option_or (arguments_in_goal (Some (goal_shown row.arguments goal))) o
@@ -43,34 +39,12 @@ arguments-wanted goal row o e = e
 -- it tells what is shown once its goal was noted
 pub reads-wanted : (goal : Goal) (row : RowShown) (view : OrchestratorView) (name : List ℕ) → Reads row view name → view.open_calls name ≡ None
     → Reads (wanted_row goal row) (after_noted name (Some (goal_shown row.arguments goal)) view) name
-reads-wanted goal row view name reads quiet =
-    record {
-      own = reads.own;
-      there = own name true (view.rows name);
-      marks = λ thing is. mark-same thing (wanted_row goal row) row refl refl ∙ reads.marks thing is;
-      ids = reads.ids;
-      goals = sym (own name (Some (goal_shown row.arguments goal)) (view.goals name));
-      arguments = arguments-wanted goal row (view.arguments name) reads.arguments ∙ sym (own name (option_or (arguments_in_goal (Some (goal_shown row.arguments goal))) (view.arguments name)) (view.arguments name));
-      holdings = reads.holdings;
-      open_calls = sym quiet;
-      counts = sym (own name 0 (view.counts name));
-    }
+reads-wanted goal row view name reads quiet = grind (arith, own, mark-same, arguments-wanted)
 
 -- a row of which the creation is wanted again tells what is shown once that was noted
 pub reads-anew : (arguments : Arguments) (row : RowShown) (view : OrchestratorView) (name : List ℕ) → Reads row view name → view.open_calls name ≡ None
     → Reads (row_wanted_anew arguments row) (after_noted name (Some (history.Create arguments)) view) name
-reads-anew arguments row view name reads quiet =
-    record {
-      own = reads.own;
-      there = own name true (view.rows name);
-      marks = λ thing is. mark-same thing (row_wanted_anew arguments row) row refl refl ∙ reads.marks thing is;
-      ids = reads.ids;
-      goals = sym (own name (Some (history.Create arguments)) (view.goals name));
-      arguments = sym (own name (Some arguments) (view.arguments name));
-      holdings = reads.holdings;
-      open_calls = sym quiet;
-      counts = sym (own name 0 (view.counts name));
-    }
+reads-anew arguments row view name reads quiet = grind (arith, own, mark-same)
 
 -- a row for a name that had none
 mark-new : (name : List ℕ) (arguments : Arguments) (thing : Thing) → mark_of thing (new_row name arguments) ≡ No
@@ -80,34 +54,12 @@ mark-new name arguments thing = refl
 -- the new row tells what is shown once its creation was noted
 pub reads-new : (arguments : Arguments) (parts : OrchestratorParts) (name : List ℕ) → row_of parts.rows name ≡ None
     → Reads (new_row name arguments) (after_noted name (Some (history.Create arguments)) (orchestrator_view parts)) name
-reads-new arguments parts name none =
-    record {
-      own = refl;
-      there = own name true ((orchestrator_view parts).rows name);
-      marks = λ thing is. mark-new name arguments thing ∙ sym (ap (λ n. mark_in (mark_of thing) (row_of parts.rows n)) is ∙ ap (mark_in (mark_of thing)) none);
-      ids = sym (ap (option_and_then (λ (r : RowShown). r.id)) none);
-      goals = sym (own name (Some (history.Create arguments)) ((orchestrator_view parts).goals name));
-      arguments = sym (own name (Some arguments) ((orchestrator_view parts).arguments name));
-      holdings = λ node maybe. absurd (maybe refl);
-      open_calls = sym (ap (option_and_then open_in_row) none);
-      counts = sym (own name 0 ((orchestrator_view parts).counts name));
-    }
+reads-new arguments parts name none = grind (arith, own, mark-new)
 
 -- its call was closed: it tells what is shown then, if nothing else changed
 pub reads-shut : (row : RowShown) (view after : OrchestratorView) (name : List ℕ) → Reads row view name → here view name ≡ here after name → ((thing : Thing) → name_in thing ≡ name → view.marks thing ≡ after.marks thing)
     → ((node : List ℕ) → view.holdings name node ≡ after.holdings name node) → after.open_calls name ≡ None → Reads (closed row) after name
-reads-shut row view after name reads rest marks holdings quiet =
-    record {
-      own = reads.own;
-      there = sym (ap (λ (h : Here). h.there) rest) ∙ reads.there;
-      marks = λ thing is. mark-same thing (closed row) row refl refl ∙ reads.marks thing is ∙ marks thing is;
-      ids = reads.ids ∙ ap (λ (h : Here). h.ids) rest;
-      goals = reads.goals ∙ ap (λ (h : Here). h.goals) rest;
-      arguments = reads.arguments ∙ ap (λ (h : Here). h.arguments) rest;
-      holdings = λ node maybe. reads.holdings node maybe ∙ holdings node;
-      open_calls = sym quiet;
-      counts = reads.counts ∙ ap (λ (h : Here). h.counts) rest;
-    }
+reads-shut row view after name reads rest marks holdings quiet = grind (arith, own, Here, mark-same)
 
 -- a call that was given up, and one that there was not
 pub reads-closed : (row : RowShown) (issued : Issued) (view : OrchestratorView) (name : List ℕ) → issued.name ≡ name → Reads row view name → Reads (closed row) (after_closed issued view) name
@@ -171,12 +123,7 @@ targets-kept entry target apart = ap (mark_in (λ (a : TargetEntry). a.published
 
 -- a node that is left out has nothing
 left-out : (entry : NodeEntryShown) → is_node_kept entry ≡ false → (entry.attached ≡ No) × (entry.staged ≡ No) × (has_targets entry.target_entries ≡ false)
-left-out entry e = by (is_no entry.attached) refl (is_no entry.staged) refl (has_targets entry.target_entries) refl e
-  where
-    by : (a : Bool) → is_no entry.attached ≡ a → (s : Bool) → is_no entry.staged ≡ s → (h : Bool) → has_targets entry.target_entries ≡ h → not (a && s && not h) ≡ false
-        → (entry.attached ≡ No) × (entry.staged ≡ No) × (has_targets entry.target_entries ≡ false)
-    by true a true s false h e = (no_is_no entry.attached a, no_is_no entry.staged s, h)
-    by a is_a s is_s h is_h e = absurd (false≢true (sym e))
+left-out entry e = grind (arith, no_is_no, false≢true)
 
 -- where a node has no target, none is published there
 no-targets : (target_entries : List TargetEntry) (target : List ℕ) → has_targets target_entries ≡ false → mark_in (λ (a : TargetEntry). a.published) (find (λ (a : TargetEntry). same_text a.target target) target_entries) ≡ No
@@ -276,56 +223,23 @@ entry-read read usage (Some entry) new kept = kept entry
 -- a reading that is No in a new entry, and that a use leaves in one that is there, is as it was at each node
 mark-entry : (read : NodeEntryShown → Known) (usage : Usage) (row : RowShown) (node : List ℕ) → read (entry_for usage None) ≡ No → ((entry : NodeEntryShown) → read (entry_for usage (Some entry)) ≡ read entry)
     → mark_in read (node_entry_of (with_entry usage row) node) ≡ mark_in read (node_entry_of row node)
-mark-entry read usage row node new kept = ap (mark_in read) (entry-there usage row node) ∙ by (same_text usage.node node) refl
-  where
-    by : (b : Bool) → same_text usage.node node ≡ b → mark_in read (cond b (Some (entry_for usage (node_entry_of row usage.node))) (node_entry_of row node)) ≡ mark_in read (node_entry_of row node)
-    by true e = entry-read read usage (node_entry_of row usage.node) new kept ∙ ap (λ n. mark_in read (node_entry_of row n)) ((same_text-tells usage.node node).0 e)
-    by false e = refl
+mark-entry read usage row node new kept = grind (arith, entry-there, entry-read, same_text-tells)
 
 -- a target that was put in isn't published
 new-mark : (target other : List ℕ) → mark_in (λ (a : TargetEntry). a.published) (cond (same_text target other) (Some (new_target_entry target)) None) ≡ No
-new-mark target other = by (same_text target other)
-  where
-    by : (b : Bool) → mark_in (λ (a : TargetEntry). a.published) (cond b (Some (new_target_entry target)) None) ≡ No
-    by true = refl
-    by false = refl
+new-mark target other = grind arith
 
 -- a target that was put in, if it wasn't there, leaves what is known of each target
 mark-with-target : (target other : List ℕ) (target_entries : List TargetEntry) → mark_in (λ (a : TargetEntry). a.published) (find (λ (a : TargetEntry). same_text a.target other) (with_target target target_entries)) ≡ mark_in (λ (a : TargetEntry). a.published) (find (λ (a : TargetEntry). same_text a.target other) target_entries)
-mark-with-target target other target_entries = by (is_some (find (λ (a : TargetEntry). same_text a.target target) target_entries))
-  where
-    last : (o : Option TargetEntry) → mark_in (λ (a : TargetEntry). a.published) (option_or o (cond (same_text target other) (Some (new_target_entry target)) None)) ≡ mark_in (λ (a : TargetEntry). a.published) o
-    last None = ap (mark_in (λ (a : TargetEntry). a.published)) (option_or-none None (cond (same_text target other) (Some (new_target_entry target)) None) refl) ∙ new-mark target other
-    last (Some target_entry) = ap (mark_in (λ (a : TargetEntry). a.published)) (option_or-some (Some target_entry) (cond (same_text target other) (Some (new_target_entry target)) None) target_entry refl)
-
-    by : (b : Bool) → mark_in (λ (a : TargetEntry). a.published) (find (λ (a : TargetEntry). same_text a.target other) (cond b target_entries (target_entries ++ new_target_entry target ∷ []))) ≡ mark_in (λ (a : TargetEntry). a.published) (find (λ (a : TargetEntry). same_text a.target other) target_entries)
-    by true = refl
-    by false = ap (mark_in (λ (a : TargetEntry). a.published)) (find-append (λ (a : TargetEntry). same_text a.target other) target_entries (new_target_entry target)) ∙ last (find (λ (a : TargetEntry). same_text a.target other) target_entries)
+mark-with-target target other target_entries = grind (arith, option_or-none, new-mark, option_or-some, find-append)
 
 -- a row with an entry for a use knows of each thing what it knew
 pub mark-with-entry : (usage : Usage) (row : RowShown) (thing : Thing) → mark_of thing (with_entry usage row) ≡ mark_of thing row
-mark-with-entry usage row (Exists name) = refl
-mark-with-entry usage row (Attached name node) = mark-entry (λ (p : NodeEntryShown). p.attached) usage row node refl (λ entry. held-same (λ (p : NodeEntryShown). p.attached) usage entry refl)
-mark-with-entry usage row (Staged name node) = mark-entry (λ (p : NodeEntryShown). p.staged) usage row node refl (λ entry. held-same (λ (p : NodeEntryShown). p.staged) usage entry refl)
-mark-with-entry usage row (Published name node target) = mark-entry (publication_known target) usage row node (new-mark usage.target target) (λ entry. mark-with-target usage.target target entry.target_entries)
+mark-with-entry usage row thing = grind (arith, mark-entry, held-same, new-mark, mark-with-target)
 
 -- and, where the volume may be attached, keeps how it is held
 held-entry : (usage : Usage) (row : RowShown) (node : List ℕ) → mark_in (λ (p : NodeEntryShown). p.attached) (node_entry_of row node) ≢ No → held_on_node (with_entry usage row) node ≡ held_on_node row node
-held-entry usage row node maybe = ap (option_map held_at) (entry-there usage row node) ∙ by (same_text usage.node node) refl
-  where
-    kept : (o : Option NodeEntryShown) → mark_in (λ (p : NodeEntryShown). p.attached) o ≢ No → Some (held_at (entry_for usage o)) ≡ option_map held_at o
-    kept None there = absurd (there refl)
-    kept (Some entry) there = same (is_no entry.attached) refl
-      where
-        same : (b : Bool) → is_no entry.attached ≡ b → Some (held_at (let p : NodeEntryShown = record (cond b (let q : NodeEntryShown = record entry { capability = usage.capability; readonly = usage.readonly } in q) entry) { target_entries = with_target usage.target entry.target_entries } in p)) ≡ Some (held_at entry)
-        same true e = absurd (there (no_is_no entry.attached e))
-        same false e = refl
-
-    by : (b : Bool) → same_text usage.node node ≡ b → option_map held_at (cond b (Some (entry_for usage (node_entry_of row usage.node))) (node_entry_of row node)) ≡ option_map held_at (node_entry_of row node)
-    by true e =
-        let is : usage.node ≡ node = (same_text-tells usage.node node).0 e in
-        kept (node_entry_of row usage.node) (λ h. maybe (ap (λ n. mark_in (λ (p : NodeEntryShown). p.attached) (node_entry_of row n)) (sym is) ∙ h)) ∙ ap (λ n. option_map held_at (node_entry_of row n)) is
-    by false e = refl
+held-entry usage row node maybe = grind (arith, entry-there, no_is_no, same_text-tells)
 
 -- a row without a goal tells what is shown of it, with an entry for a use too
 pub reads-with-entry : (usage : Usage) (row : RowShown) (view : OrchestratorView) (name : List ℕ) → row.goal ≡ None → Reads row view name → Reads (with_entry usage row) view name

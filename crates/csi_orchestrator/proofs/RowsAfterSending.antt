@@ -1,13 +1,13 @@
 -- What a row tells once its due call was sent, and once that call succeeded.
 use Rattle.csi_orchestrator.proofs.Words.{◌≡◌, ◌≢◌, ◌+◌, ℕ, List, Bool, true, false, cond, refl, sym, ◌∙◌, ap, subst}
-use Rattle.csi_orchestrator.proofs.Words.{Option, Some, None, min, option_map, ◌&&◌, option_or, Call, Capability}
-use Rattle.csi_orchestrator.proofs.Words.{Number, Status, kind_of, is_ok_status, same_text, Goal, Create, Use, Stop}
-use Rattle.csi_orchestrator.proofs.Words.{Delete, Usage, Thing, Exists, Attached, No, Maybe, Issued, thing_at, is_thing}
-use Rattle.csi_orchestrator.proofs.Words.{touches, is_no, Held, held_by_call, OrchestratorView, Due, after_sent}
-use Rattle.csi_orchestrator.proofs.Words.{after_accepted, known_by_success, id_brought, marks_marked, HasEntry}
-use Rattle.csi_orchestrator.proofs.Words.{aspect_of, marked_row, row_once_sent, known_by_success_of, id_told}
-use Rattle.csi_orchestrator.proofs.Words.{succeeded_row, RowShown, node_entry_of, mark_in, mark_of, held_on_node}
-use Rattle.csi_orchestrator.proofs.Words.{held_at, marks_for, due_with, due_by, due_in}
+use Rattle.csi_orchestrator.proofs.Words.{Option, Some, None, min, option_map, ◌&&◌, option_or, Call, Number, Status}
+use Rattle.csi_orchestrator.proofs.Words.{kind_of, is_ok_status, same_text, Goal, Create, Use, Stop, Delete, Usage}
+use Rattle.csi_orchestrator.proofs.Words.{Thing, Exists, Attached, No, Maybe, Issued, thing_at, is_thing, touches}
+use Rattle.csi_orchestrator.proofs.Words.{is_no, Held, held_by_call, OrchestratorView, Due, after_sent, after_accepted}
+use Rattle.csi_orchestrator.proofs.Words.{known_by_success, id_brought, marks_marked, HasEntry, aspect_of, marked_row}
+use Rattle.csi_orchestrator.proofs.Words.{row_once_sent, known_by_success_of, id_told, succeeded_row, RowShown}
+use Rattle.csi_orchestrator.proofs.Words.{node_entry_of, mark_in, mark_of, held_on_node, marks_for, due_with, due_by}
+use Rattle.csi_orchestrator.proofs.Words.{due_in, arith}
 use Rattle.csi_orchestrator.proofs.Lemmas.{same_Some, same_text-tells}
 use Rattle.csi_types.specs.declared.call.Call.TheVariants as calls
 use Rattle.csi_types.specs.declared.call.Kind.TheVariants as kinds
@@ -59,11 +59,7 @@ quiet-held row after view name node reads same maybe = reads.holdings node (λ e
 
 -- at the node of a use with its entries the volume is held as the use asks
 held-entry : (row : RowShown) (usage : Usage) (node : List ℕ) → HasEntry row usage → same_text usage.node node ≡ true → held_on_node row node ≡ Some (let h : Held = record { capability = usage.capability; readonly = usage.readonly } in h)
-held-entry row usage node entry e =
-    ap (held_on_node row) (sym ((same_text-tells usage.node node).0 e)) ∙ ap (option_map held_at) entry.at_node ∙ ap Some (both entry.node_entry.capability usage.capability entry.node_entry.readonly usage.readonly entry.same_capability entry.same_flag)
-  where
-    both : (c d : Capability) (r s : Bool) → c ≡ d → r ≡ s → (let h : Held = record { capability = c; readonly = r } in h) ≡ (let h : Held = record { capability = d; readonly = s } in h)
-    both c d r s e f = λ i. record { capability = e i; readonly = f i }
+held-entry row usage node entry e = grind (arith, same_text-tells)
 
 -- where the volume may be attached once the call was sent, it is held as the call asks, or else as it is shown
 pub held-right : (row : RowShown) (due : Due) (view : OrchestratorView) (name node : List ℕ) → GoalHasEntry row row.goal → IsDueFor row due → Reads row view name

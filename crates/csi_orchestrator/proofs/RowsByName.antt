@@ -6,7 +6,7 @@ use Rattle.csi_orchestrator.proofs.Words.{orchestrator_parts_shown, Arguments, I
 use Rattle.csi_orchestrator.proofs.Words.{first_fault, moved_rows, IsRefusal, put, outgoing_frame, last_after}
 use Rattle.csi_orchestrator.proofs.Words.{all_rows_moved, steps_at, creates, row_moves, input_asking, RowsAnswer}
 use Rattle.csi_orchestrator.proofs.Words.{RowShown, OrchestratorParts, row_of, row_shown, MovedRow, row_sends_due}
-use Rattle.csi_orchestrator.proofs.Words.{row_unless, row_step, SendsNothing}
+use Rattle.csi_orchestrator.proofs.Words.{row_unless, row_step, SendsNothing, arith}
 use Rattle.csi_orchestrator.proofs.Lemmas.{map-set_same, position-Some, none-some, same_Some, at-index}
 use Rattle.csi_orchestrator.specs.declared.step.Step.TheVariants as steps
 use Rattle.csi_orchestrator.proofs.ChangedEntries.{find-place, find-none_placed, put-place, put-none_placed}
@@ -88,10 +88,7 @@ rows-stay core i r s stands same =
 
 -- what is asked of a name is told by a step
 pub asked : (parts : OrchestratorParts) (name : List ℕ) (step : Step) (input : Input) → input_asking name step ≡ Some input → steps_at parts Sends step (row_of parts.rows name) ≡ row_moves parts input
-asked parts name (steps.Create arguments) input is = absurd (none-some input is)
-asked parts name (steps.Succeed kind id) input is = absurd (none-some input is)
-asked parts name steps.Fail input is = absurd (none-some input is)
-asked parts name step input is = ap (row_moves parts) (same_Some _ input is)
+asked parts name step input is = grind (arith, none-some, same_Some)
 
 -- what another create of a name is told by
 pub create-asked : (core : OrchestratorCore) (name : List ℕ) (arguments : Arguments) (i : ℕ) → position (λ (row : Row). same_text row.name name) (rows_of core.catalog) ≡ Some i

@@ -27,17 +27,7 @@ rows-remembered old new rows = ap (map row_shown) (rows-kept old new rows) ∙ s
 pub remembered-indexed : (old new : Catalog) → IsIndexed old → AllByRecursion (λ (row : Row). row.open_call ≡ None) (rows_of old)
     → new.rows.entries ≡ filter (λ (e : List ℕ × Row). not (is_row_forgotten (row_shown e.1))) old.rows.entries → new.calls.entries ≡ []
     → index_map_len old.calls + spare old.calls ≤ spare new.calls → IsIndexed new
-remembered-indexed old new indexed closed rows empty room =
-    let kept = rows-kept old new rows in
-    let all = subst (AllByRecursion (λ (row : Row). row.open_call ≡ None)) (sym kept) (each-filter (λ (row : Row). row.open_call ≡ None) stays (rows_of old) closed) in
-    let fewer : length (rows_of new) ≤ length (rows_of old) = subst (λ (rs : List Row). length rs ≤ length (rows_of old)) (sym kept) (filter-no_longer stays (rows_of old)) in
-    let free : HasRoomForCalls new = λ some. let least = (indexed.noted).room (omega (arith, some, fewer)) in omega (arith, least, room, fewer) in
-    record {
-      rows = rows ∙ ap (filter (λ (e : List ℕ × Row). not (is_row_forgotten (row_shown e.1)))) indexed.rows ∙ filter-of_map (λ (e : List ℕ × Row). not (is_row_forgotten (row_shown e.1))) by_name (rows_of old) ∙ ap (map by_name) (sym kept);
-      noted = record { found = λ place row own at is_open. absurd (none-some own (sym (each-at (λ (r : Row). r.open_call ≡ None) (rows_of new) place row all at) ∙ is_open)); room = free };
-      free = λ some. let least = free some in let none = ap length empty in omega (arith, least, none);
-      few = let none = ap length empty in omega (arith, none);
-    }
+remembered-indexed old new indexed closed rows empty room = grind (arith, rows-kept, each-filter, filter-no_longer, filter-of_map, none-some, each-at)
 
 -- ---- a node was lost
 

@@ -1,14 +1,12 @@
 -- What a row is and tells once a node was lost.
 use Rattle.csi_orchestrator.proofs.Words.{◌≡◌, ℕ, List, [], ◌∷◌, map, Bool, true, false, cond, refl, sym, ◌∙◌, ap}
 use Rattle.csi_orchestrator.proofs.Words.{Option, Some, None, option_map, ◌||◌, AllByRecursion, list_any, same_text}
-use Rattle.csi_orchestrator.proofs.Words.{Goal, Create, Use, Stop, Delete, Usage, No, Thing, Exists, Attached, Staged}
-use Rattle.csi_orchestrator.proofs.Words.{Published, is_gone_with, Held, is_for_one_node, uses_as_second_writer}
-use Rattle.csi_orchestrator.proofs.Words.{NodeEntryShown, RowShown, node_entry_of, mark_in, publication_known, mark_of}
-use Rattle.csi_orchestrator.proofs.Words.{goal_in, held_on_node, held_at, is_use_at, wanted_row, stopped_goal}
-use Rattle.csi_orchestrator.proofs.Words.{entry_at_loss, stopped_at, row_at_loss, AreTargetsApart, closed}
-use Rattle.csi_orchestrator.proofs.Words.{is_so_elsewhere, AreNodesApart, IsUsable, MayBeWanted, IsSoundRow}
+use Rattle.csi_orchestrator.proofs.Words.{Goal, Create, Use, Stop, Delete, Usage, No, Thing, is_gone_with, Held}
+use Rattle.csi_orchestrator.proofs.Words.{NodeEntryShown, RowShown, node_entry_of, mark_of, goal_in, held_on_node}
+use Rattle.csi_orchestrator.proofs.Words.{held_at, is_use_at, wanted_row, stopped_goal, entry_at_loss, stopped_at}
+use Rattle.csi_orchestrator.proofs.Words.{row_at_loss, AreTargetsApart, closed, is_so_elsewhere, AreNodesApart}
+use Rattle.csi_orchestrator.proofs.Words.{IsUsable, MayBeWanted, IsSoundRow, arith}
 use Rattle.csi_orchestrator.proofs.Lemmas.{false≢true, none-some, each-map, find-map, find-passes, same_text-tells}
-use Rattle.csi_orchestrator.specs.Model.History as wishes
 use Rattle.csi_orchestrator.proofs.EntryRules.{apart-map}
 use Rattle.csi_orchestrator.proofs.LossViews.{stopped, is_stopped}
 
@@ -16,11 +14,7 @@ use Rattle.csi_orchestrator.proofs.LossViews.{stopped, is_stopped}
 
 -- an entry of the node, and one of another
 pub entry-by : (P : NodeEntryShown → Type 0) (node : List ℕ) (entry : NodeEntryShown) → P (record entry { staged = No; target_entries = [] }) → P entry → P (entry_at_loss node entry)
-entry-by P node entry lost other = by (same_text entry.node node)
-  where
-    by : (b : Bool) → P (cond b (record entry { staged = No; target_entries = [] }) entry)
-    by true = lost
-    by false = other
+entry-by P node entry lost other = grind arith
 
 -- it is of the same node, attached and held as before, and its targets stay apart
 pub lost-node : (node : List ℕ) (entry : NodeEntryShown) → (entry_at_loss node entry).node ≡ entry.node
@@ -55,12 +49,7 @@ with_lost node row = record row { node_entries = map (entry_at_loss node) row.no
 -- what is so of the row whatever its goal is, once its call is closed, and once a use of the node is stopped
 pub row-by : (P : RowShown → Type 0) (node : List ℕ) (row : RowShown) (goal : Option Goal) → (is_use_at node goal ≡ false → P (closed (with_lost node row)))
     → ((usage : Usage) → goal ≡ Some (Use usage) → same_text usage.node node ≡ true → P (record (with_lost node row) { goal = Some (Stop usage.node usage.target); open_call = None; tries = 0 })) → P (stopped_at node goal (with_lost node row))
-row-by P node row (Some (Use usage)) other own = by (same_text usage.node node) refl
-  where
-    by : (b : Bool) → same_text usage.node node ≡ b → P (cond b (record (with_lost node row) { goal = Some (Stop usage.node usage.target); open_call = None; tries = 0 }) (closed (with_lost node row)))
-    by true e = own usage refl e
-    by false e = other e
-row-by P node row goal other own = other refl
+row-by P node row goal other own = grind arith
 
 -- its name, and what is read of its entries
 pub lost-name : (node : List ℕ) (row : RowShown) → (row_at_loss node row).name ≡ row.name
@@ -83,24 +72,7 @@ any-same node so there (entry ∷ entries) = λ i. elsewhere-same node so there 
 
 -- a use at another node
 lost-usable : (node : List ℕ) (row : RowShown) (usage : Usage) → same_text usage.node node ≡ false → IsUsable row usage → IsUsable (closed (with_lost node row)) usage
-lost-usable node row usage other usable =
-    let entry = usable.entry.node_entry in
-    let own = (same_text-tells entry.node usage.node).0 (find-passes (λ (e : NodeEntryShown). same_text e.node usage.node) row.node_entries entry usable.entry.at_node) in
-    let same = other-entry node entry (ap (λ n. same_text n node) own ∙ other) in
-    record {
-      made = usable.made;
-      entry =
-          record {
-            node_entry = entry;
-            target_entry = usable.entry.target_entry;
-            at_node = lost-entry node row usage.node ∙ ap (option_map (entry_at_loss node)) usable.entry.at_node ∙ ap Some same;
-            at_target = usable.entry.at_target;
-            same_capability = usable.entry.same_capability;
-            same_flag = usable.entry.same_flag;
-          };
-      shared = any-same node (is_for_one_node usage) usage.node row.node_entries ∙ usable.shared;
-      one_writer = any-same node (uses_as_second_writer usage) usage.node row.node_entries ∙ usable.one_writer;
-    }
+lost-usable node row usage other usable = grind (arith, same_text-tells, find-passes, other-entry, lost-entry, any-same)
 
 -- what is wanted may be wanted still
 lost-wanted : (node : List ℕ) (row : RowShown) (goal : Option Goal) → is_use_at node goal ≡ false → MayBeWanted row goal → MayBeWanted (closed (with_lost node row)) goal
@@ -121,22 +93,7 @@ lost-targets node row apart = each-map AreTargetsApart AreTargetsApart (entry_at
 
 -- a sound row stays so
 pub lost-sound : (node : List ℕ) (row : RowShown) → IsSoundRow row → IsSoundRow (row_at_loss node row)
-lost-sound node row sound =
-    row-by IsSoundRow node row row.goal
-    (λ other.
-    record {
-      nodes = lost-nodes node row sound.nodes;
-      targets = lost-targets node row sound.targets;
-      goal = lost-wanted node row row.goal other sound.goal;
-      open_due = λ due is. absurd (none-some due is);
-    })
-    (λ usage e f.
-    record {
-      nodes = lost-nodes node row sound.nodes;
-      targets = lost-targets node row sound.targets;
-      goal = tt;
-      open_due = λ due is. absurd (none-some due is);
-    })
+lost-sound node row sound = grind (arith, row-by, lost-nodes, lost-targets, lost-wanted, none-some)
 
 -- ---- what it tells
 
@@ -146,61 +103,19 @@ of-node row there entry e = (same_text-tells entry.node there).0 (find-passes (�
 
 -- what is known of a thing: nothing is staged or published at the node any more
 pub lost-mark : (node : List ℕ) (row : RowShown) (thing : Thing) → mark_of thing (with_lost node row) ≡ cond (is_gone_with node thing) No (mark_of thing row)
-lost-mark node row (Exists name) = refl
-lost-mark node row (Attached name there) = ap (mark_in (λ (e : NodeEntryShown). e.attached)) (lost-entry node row there) ∙ by (node_entry_of row there)
-  where
-    by : (o : Option NodeEntryShown) → mark_in (λ (e : NodeEntryShown). e.attached) (option_map (entry_at_loss node) o) ≡ mark_in (λ (e : NodeEntryShown). e.attached) o
-    by None = refl
-    by (Some entry) = lost-attached node entry
-lost-mark node row (Staged name there) = ap (mark_in (λ (e : NodeEntryShown). e.staged)) (lost-entry node row there) ∙ by (node_entry_of row there) refl (same_text there node) refl
-  where
-    by : (o : Option NodeEntryShown) → node_entry_of row there ≡ o → (b : Bool) → same_text there node ≡ b
-        → mark_in (λ (e : NodeEntryShown). e.staged) (option_map (entry_at_loss node) o) ≡ cond b No (mark_in (λ (e : NodeEntryShown). e.staged) o)
-    by None e true f = refl
-    by None e false f = refl
-    by (Some entry) e true f = ap (λ (x : NodeEntryShown). x.staged) (own-lost node entry (ap (λ n. same_text n node) (of-node row there entry e) ∙ f))
-    by (Some entry) e false f = ap (λ (x : NodeEntryShown). x.staged) (other-entry node entry (ap (λ n. same_text n node) (of-node row there entry e) ∙ f))
-lost-mark node row (Published name there target) = ap (mark_in (publication_known target)) (lost-entry node row there) ∙ by (node_entry_of row there) refl (same_text there node) refl
-  where
-    by : (o : Option NodeEntryShown) → node_entry_of row there ≡ o → (b : Bool) → same_text there node ≡ b
-        → mark_in (publication_known target) (option_map (entry_at_loss node) o) ≡ cond b No (mark_in (publication_known target) o)
-    by None e true f = refl
-    by None e false f = refl
-    by (Some entry) e true f = ap (publication_known target) (own-lost node entry (ap (λ n. same_text n node) (of-node row there entry e) ∙ f))
-    by (Some entry) e false f = ap (publication_known target) (other-entry node entry (ap (λ n. same_text n node) (of-node row there entry e) ∙ f))
+lost-mark node row thing = grind (arith, lost-entry, lost-attached, own-lost, of-node, other-entry)
 
 -- how it is held
 pub lost-holding : (node : List ℕ) (row : RowShown) (there : List ℕ) → held_on_node (with_lost node row) there ≡ held_on_node row there
-lost-holding node row there = ap (option_map held_at) (lost-entry node row there) ∙ by (node_entry_of row there)
-  where
-    by : (o : Option NodeEntryShown) → option_map held_at (option_map (entry_at_loss node) o) ≡ option_map held_at o
-    by None = refl
-    by (Some entry) = ap Some (lost-held node entry)
+lost-holding node row there = grind (arith, lost-entry, lost-held)
 
 -- what is wanted, and how often it was tried
 pub lost-goal : (node : List ℕ) (row : RowShown) → goal_in (row_at_loss node row) ≡ stopped node (goal_in row)
-lost-goal node row = by row.goal
-  where
-    by : (goal : Option Goal) → goal_in (stopped_at node goal (record row { goal = goal; node_entries = map (entry_at_loss node) row.node_entries })) ≡ stopped node (goal_in (record row { goal = goal }))
-    by (Some (Use usage)) = by_use (same_text usage.node node)
-      where
-        by_use : (b : Bool) → goal_in (cond b (let r : RowShown = record (with_lost node row) { goal = Some (Stop usage.node usage.target); open_call = None; tries = 0 } in r) (let r : RowShown = record (with_lost node row) { goal = Some (Use usage); open_call = None } in r))
-            ≡ cond b (Some (wishes.Stop usage.node usage.target)) (Some (wishes.Use usage))
-        by_use true = refl
-        by_use false = refl
-    by goal = refl
+lost-goal node row = grind (arith, stopped)
 
 -- the tries of a use that is stopped begin anew
 pub lost-tries : (node : List ℕ) (row : RowShown) → (row_at_loss node row).tries ≡ cond (is_stopped node (goal_in row)) 0 row.tries
-lost-tries node row = by row.goal
-  where
-    by : (goal : Option Goal) → (stopped_at node goal (with_lost node row)).tries ≡ cond (is_stopped node (goal_in (record row { goal = goal }))) 0 row.tries
-    by (Some (Use usage)) = by_use (same_text usage.node node)
-      where
-        by_use : (b : Bool) → (cond b (let r : RowShown = record (with_lost node row) { goal = Some (Stop usage.node usage.target); open_call = None; tries = 0 } in r) (closed (with_lost node row))).tries ≡ cond b 0 row.tries
-        by_use true = refl
-        by_use false = refl
-    by goal = refl
+lost-tries node row = grind (arith, is_stopped)
 
 -- a row whose use of the node was stopped, once its entries lost the node
 pub stopped-row : (node : List ℕ) (row : RowShown) (entries : List NodeEntryShown) → entries ≡ map (entry_at_loss node) row.node_entries → (goal : Option Goal) → row.goal ≡ goal → is_use_at node goal ≡ true

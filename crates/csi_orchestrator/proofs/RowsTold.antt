@@ -1,8 +1,8 @@
 -- A row is told by a history: by calls that were sent, and answered or given up, and by what was noted. What is kept of the history grows
 -- with it, where each call fits.
 use Rattle.csi_orchestrator.proofs.Words.{◌≡◌, ◌≢◌, ◌+◌, ℕ, List, [], ◌∷◌, Bool, true, false, cond, refl, sym, ◌∙◌, ap}
-use Rattle.csi_orchestrator.proofs.Words.{subst, inl, arith, ◌==◌, nat_lt, Option, Some, None, option_or, IsAmong, Call}
-use Rattle.csi_orchestrator.proofs.Words.{Party, Number, same_text, Thing, Attached, Known, No, Maybe, Issued, name_in}
+use Rattle.csi_orchestrator.proofs.Words.{subst, inl, arith, Option, Some, None, option_or, IsAmong, Call, Party}
+use Rattle.csi_orchestrator.proofs.Words.{Number, same_text, Thing, Attached, Known, No, Maybe, Issued, name_in}
 use Rattle.csi_orchestrator.proofs.Words.{thing_at, is_thing, is_doing, History, with_items, Sent, Accepted, Closed}
 use Rattle.csi_orchestrator.proofs.Words.{Noted, held_by_call, id_of, issued_in, last_number, open_call, IsOfName}
 use Rattle.csi_orchestrator.proofs.Words.{IsNextNumber, IsWellFormed, OrchestratorView, Agrees, NodeEntryShown}
@@ -48,11 +48,7 @@ number_after last = record { session = last.session; call = last.call + 1 }
 
 -- it comes next
 next-number : (last : Number) → IsNextNumber last (number_after last)
-next-number last =
-    let same : nat_lt last.session last.session ≡ false = le-ltb last.session last.session (omega arith) in
-    let equal : (last.session == last.session) ≡ true = eq-eqb last.session last.session refl in
-    let less : nat_lt last.call (last.call + 1) ≡ true = lt-ltb last.call (last.call + 1) (omega arith) in
-    record { later = simp (same, equal, less); same_session = refl }
+next-number last = grind (arith, le-ltb, eq-eqb, lt-ltb)
 
 -- ---- a call that is sent
 

@@ -1,13 +1,13 @@
 -- The rows of a catalog under their names: what a look-up finds, and what stays so after a row changed or came.
-use Rattle.csi_orchestrator.proofs.Words.{◌≡◌, ◌<◌, ◌≤◌, ◌+◌, ◌⊎◌, inl, inr, ℕ, zero, suc, Bool, true, false, cond, not}
-use Rattle.csi_orchestrator.proofs.Words.{List, [], ◌∷◌, ◌++◌, length, get_or, map, set, refl, sym, ◌∙◌, ap, subst}
-use Rattle.csi_orchestrator.proofs.Words.{arith, Option, Some, None, option_map, find, position, slice_get, nat_lt}
-use Rattle.csi_orchestrator.proofs.Words.{nat_eq, position_or_len, pointwise, keys_of, values_of, lookup, IndexMap}
-use Rattle.csi_orchestrator.proofs.Words.{values, get, spare, index_map_len, with_value_at, insert_entry, IsAt}
-use Rattle.csi_orchestrator.proofs.Words.{same_text, Number, OpenCall, Outgoing, Row, Catalog, rows_of, by_name}
-use Rattle.csi_orchestrator.proofs.Words.{place_noted, HasRoomForCalls, HasFewNotes, IsIndexed, AreUpTo, IsReady}
-use Rattle.csi_orchestrator.proofs.Words.{IsNextFor, IsClosedAt, AreNotedBefore, outgoing_call_number, IsNumberedAfter}
-use Rattle.csi_orchestrator.proofs.Words.{RowShown, OrchestratorParts, row_shown, without_call}
+use Rattle.csi_orchestrator.proofs.Words.{◌≡◌, ◌<◌, ◌≤◌, ◌+◌, ◌⊎◌, inl, inr, ℕ, zero, suc, Bool, List, [], ◌∷◌, ◌++◌}
+use Rattle.csi_orchestrator.proofs.Words.{length, get_or, map, set, refl, sym, ◌∙◌, ap, subst, arith, Option, Some}
+use Rattle.csi_orchestrator.proofs.Words.{None, option_map, find, position, slice_get, nat_eq, position_or_len}
+use Rattle.csi_orchestrator.proofs.Words.{pointwise, keys_of, values_of, lookup, IndexMap, values, spare}
+use Rattle.csi_orchestrator.proofs.Words.{with_value_at, insert_entry, IsAt, same_text, Number, OpenCall, Outgoing}
+use Rattle.csi_orchestrator.proofs.Words.{Row, Catalog, rows_of, by_name, place_noted, HasRoomForCalls, HasFewNotes}
+use Rattle.csi_orchestrator.proofs.Words.{IsIndexed, AreUpTo, IsReady, IsNextFor, IsClosedAt, AreNotedBefore}
+use Rattle.csi_orchestrator.proofs.Words.{outgoing_call_number, IsNumberedAfter, RowShown, OrchestratorParts}
+use Rattle.csi_orchestrator.proofs.Words.{row_shown, without_call}
 use Rattle.csi_orchestrator.proofs.Lemmas.{length-map, length-set, length_push, map_push, none-some}
 use Rattle.csi_orchestrator.proofs.Lemmas.{get_or_from_slice_get, find-no_place, insert_entry-new}
 use Rattle.csi_orchestrator.proofs.Lemmas.{index_map_len-with_value_at, same-at}
@@ -20,17 +20,11 @@ use Rattle.csi_orchestrator.proofs.TextLists.{same_text-flip}
 -- a value has the place there that it has in the list, by the same test
 position_or_len-map : {X Y : Type 0} (f : X → Y) (p : Y → Bool) (q : X → Bool) (xs : List X) → ((x : X) → p (f x) ≡ q x) → position_or_len p (map f xs) ≡ position_or_len q xs
 position_or_len-map f p q [] same = refl
-position_or_len-map f p q (x ∷ xs) same =
-    let own = same x in
-    let rest = position_or_len-map f p q xs same in
-    λ i. cond (not (own i)) (1 + rest i) 0
+position_or_len-map f p q (x ∷ xs) same = grind (arith, (position_or_len-map f p q xs same))
 
 -- a test finds the same place in what a list is changed to as the test that comes to the same finds in the list
 pub position-map : {X Y : Type 0} (f : X → Y) (p : Y → Bool) (q : X → Bool) (xs : List X) → ((x : X) → p (f x) ≡ q x) → position p (map f xs) ≡ position q xs
-position-map f p q xs same =
-    let at = position_or_len-map f p q xs same in
-    let long = length-map xs f in
-    λ i. cond (nat_lt (at i) (long i)) (Some (at i)) None
+position-map f p q xs same = grind (arith, position_or_len-map, length-map)
 
 -- the keys of entries that a function gives are the first parts of what it gives
 keys-map : {X K V : Type 0} (f : X → K × V) (xs : List X) → keys_of (map f xs) ≡ map (λ x. (f x).0) xs
@@ -44,13 +38,7 @@ position-keys f p q es xs is same = ap (λ l. position p (keys_of l)) is ∙ ap 
 -- a look-up gives what the function makes of the first one that passes the test
 lookup-map : {X K V : Type 0} (f : X → K × V) (p : K → Bool) (q : X → Bool) (xs : List X) → ((x : X) → p (f x).0 ≡ q x) → lookup p (map f xs) ≡ option_map (λ x. (f x).1) (find q xs)
 lookup-map f p q [] same = refl
-lookup-map f p q (x ∷ xs) same =
-    let own = same x in
-    ap (λ b. cond b (Some (f x).1) (lookup p (map f xs))) own ∙ by (q x) (lookup-map f p q xs same)
-  where
-    by : (b : Bool) → lookup p (map f xs) ≡ option_map (λ x. (f x).1) (find q xs) → cond b (Some (f x).1) (lookup p (map f xs)) ≡ option_map (λ x. (f x).1) (cond b (Some x) (find q xs))
-    by true h = refl
-    by false h = h
+lookup-map f p q (x ∷ xs) same = grind (arith, (lookup-map f p q xs same))
 
 -- what stands at a place, as it is read there
 pub read-at : (rows : List Row) (place : ℕ) (row : Row) → slice_get rows place ≡ Some row → row ≡ get_or rows place row
@@ -107,11 +95,7 @@ IsOpened old next new = (kept : OpenCall) → new ≡ Some kept → (old ≡ Som
 
 -- the next call isn't noted yet
 pub next-unnoted : (catalog : Catalog) (last call : ℕ) → AreUpTo last catalog → call ≡ last + 1 → place_noted catalog call ≡ None
-next-unnoted catalog last call known is = by (place_noted catalog call) refl
-  where
-    by : (o : Option ℕ) → place_noted catalog call ≡ o → o ≡ None
-    by None e = refl
-    by (Some place) e = let least = known call place e in absurd (omega (arith, least, is))
+next-unnoted catalog last call known is = grind arith
 
 -- once a row went on, only the call that is sent for it isn't noted yet
 pub ready-set : (catalog : Catalog) (last place : ℕ) (row new : Row) (next : Option Outgoing) → IsIndexed catalog → AreUpTo last catalog → slice_get (rows_of catalog) place ≡ Some row → new.name ≡ row.name
@@ -140,20 +124,7 @@ ready-set catalog last place row new next indexed known at name opened after =
 
 -- where nothing is to be noted, all is
 pub ready-none : (catalog : Catalog) (place : ℕ) → IsReady catalog place None → IsIndexed catalog
-ready-none catalog place ready =
-    record {
-      rows = ready.rows;
-      noted = record { found = λ other row kept at is_open. by other kept (ready.found other row kept at is_open); room = ready.room };
-      free = λ some. ready.free;
-      few = ready.few;
-    }
-  where
-    none_is : (call : ℕ) → ◌≡◌ {A = Option ℕ} None (Some call) → ⊥
-    none_is call h = cc
-
-    by : (other : ℕ) (kept : OpenCall) → (place_noted catalog kept.number.call ≡ Some other) ⊎ ((other ≡ place) × (◌≡◌ {A = Option ℕ} None (Some kept.number.call))) → place_noted catalog kept.number.call ≡ Some other
-    by other kept (inl noted) = noted
-    by other kept (inr own) = absurd (none_is kept.number.call own.1)
+ready-none catalog place ready = grind arith
 
 -- as many rows stand there
 pub rows-within : (catalog : Catalog) (i : ℕ) → i < length catalog.rows.entries → i < length (rows_of catalog)
@@ -187,27 +158,7 @@ rows-added old new row rows = ap values_of rows ∙ map_push (λ (e : List ℕ �
 -- once a row was added, only its own call isn't noted yet
 pub ready-added : (old made new : Catalog) (row : Row) (next : Option ℕ) → IsIndexed made → made.rows ≡ old.rows → AreNotedBefore old made → length (rows_of old) + 2 ≤ spare made.calls
     → new.rows.entries ≡ made.rows.entries ++ by_name row ∷ [] → new.calls ≡ made.calls → IsNextFor old row.open_call next → IsReady new (length (rows_of old)) next
-ready-added old made new row next indexed same kept roomy rows calls is =
-    let all : rows_of new ≡ rows_of made ++ row ∷ [] = rows-added made new row rows in
-    let long : length (rows_of new) ≡ length (rows_of made) + 1 = ap length all ∙ length_push (rows_of made) row in
-    let before : length (rows_of made) ≡ length (rows_of old) = ap (λ (m : IndexMap (List ℕ) Row _). length (values m)) same in
-    record {
-      rows = rows ∙ ap (λ l. l ++ by_name row ∷ []) indexed.rows ∙ sym (map_push by_name (rows_of made) row) ∙ ap (map by_name) (sym all);
-      found = λ other r kept there is_open. by before other r kept is_open (at-push (rows_of made) other row r (subst (λ (rs : List Row). IsAt rs other r) all there));
-      new = λ call next_is. ap (λ (m : IndexMap ℕ ℕ _). get nat_eq m call) calls ∙ unnoted call (is.new call next_is) (place_noted made call) refl;
-      room = subst (λ (m : IndexMap ℕ ℕ _). 0 < length (rows_of new) → length (rows_of new) < index_map_len m + spare m) (sym calls) (λ some. omega (arith, long, before, roomy));
-      free = subst (λ (m : IndexMap ℕ ℕ _). 0 < spare m) (sym calls) (omega (arith, roomy));
-      few = let noted = ap (λ (m : IndexMap ℕ ℕ _). index_map_len m) calls in let few = indexed.few in omega (arith, long, noted, few);
-    }
-  where
-    unnoted : (call : ℕ) → place_noted old call ≡ None → (o : Option ℕ) → place_noted made call ≡ o → o ≡ None
-    unnoted call none None e = refl
-    unnoted call none (Some place) e = sym (kept call place e) ∙ none
-
-    by : length (rows_of made) ≡ length (rows_of old) → (other : ℕ) (r : Row) (kept : OpenCall) → r.open_call ≡ Some kept → ((other ≡ length (rows_of made)) × (row ≡ r)) ⊎ IsAt (rows_of made) other r
-        → (place_noted new kept.number.call ≡ Some other) ⊎ ((other ≡ length (rows_of old)) × (next ≡ Some kept.number.call))
-    by before other r kept is_open (inl here) = inr (here.0 ∙ before, is.is kept (ap (λ (x : Row). x.open_call) here.1 ∙ is_open))
-    by before other r kept is_open (inr there) = inl (ap (λ (m : IndexMap ℕ ℕ _). get nat_eq m kept.number.call) calls ∙ indexed.noted.found other r kept there is_open)
+ready-added old made new row next indexed same kept roomy rows calls is = grind (arith, rows-added, length_push, map_push, at-push)
 
 -- a row was closed at its place
 pub closed-at : (catalog : Catalog) (place : ℕ) (row : Row) → slice_get (rows_of catalog) place ≡ Some row → IsClosedAt place (rows_of catalog) (rows_of (catalog_with catalog place (without_call row)))
@@ -222,12 +173,7 @@ closed-at catalog place row at =
 
 -- where no row stands nothing is closed
 pub closed-nowhere : (rows : List Row) (place : ℕ) → length rows ≤ place → IsClosedAt place rows rows
-closed-nowhere rows place over =
-    record {
-      long = refl;
-      there = λ row is. let inside = at-within rows place row is in absurd (omega (arith, inside, over));
-      others = λ other row is differs. is;
-    }
+closed-nowhere rows place over = grind (arith, at-within)
 
 -- what is shown once a row was put in the place of another
 pub parts-set : (nodes : List (List ℕ)) (last : Number) (catalog : Catalog) (place : ℕ) (new : Row)

@@ -1,13 +1,13 @@
 -- Why the rows stay as an orchestrator's type keeps them.
-use Rattle.csi_orchestrator.proofs.Words.{◌≡◌, List, Bool, map, refl, subst, find, false, not, Some, Result, Ok, Err}
-use Rattle.csi_orchestrator.proofs.Words.{same_text, OrchFault, Input, RowShown, OrchestratorParts, closed}
-use Rattle.csi_orchestrator.proofs.Words.{is_row_forgotten, remembered, row_at_loss, new_row, MovedRows, moved_rows}
-use Rattle.csi_orchestrator.proofs.Words.{put, IsSoundRow, AreSoundRows, RowsStaySound}
+use Rattle.csi_orchestrator.proofs.Words.{◌≡◌, List, Bool, map, subst, find, false, not, Some, Result, Ok, Err}
+use Rattle.csi_orchestrator.proofs.Words.{same_text, OrchFault, Input, RowShown, OrchestratorParts, is_row_forgotten}
+use Rattle.csi_orchestrator.proofs.Words.{remembered, MovedRows, moved_rows, put, IsSoundRow, AreSoundRows}
+use Rattle.csi_orchestrator.proofs.Words.{RowsStaySound, arith}
 use Rattle.csi_orchestrator.proofs.Lemmas.{each_of, among-find, each-map, each-filter, two-filter}
 use Rattle.csi_orchestrator.proofs.EntryRules.{each-put, apart-put, apart-map}
 use Rattle.csi_orchestrator.proofs.RowRules.{kept-closed}
 use Rattle.csi_orchestrator.proofs.RowsLost.{lost-name, lost-sound}
-use Rattle.csi_orchestrator.proofs.RowsMoved.{IsRowMove, IsRefused, IsIgnored, TakesStep, PutsIn, StartsAgain, GivesUp, row-moved}
+use Rattle.csi_orchestrator.proofs.RowsMoved.{IsRowMove, row-moved}
 use Rattle.csi_orchestrator.proofs.StepsSound.{SoundRowAfter, sends-due-kept, step-kept, new-may}
 
 -- what is told, if anything, is kept so
@@ -33,13 +33,7 @@ begun-sound change rows named keeps kept =
 
 -- whatever comes
 stays-sound : (parts : OrchestratorParts) (input : Input) (result : Result MovedRows OrchFault) → AreSoundRows parts.rows → IsRowMove parts input result → SoundAfter result
-stays-sound parts input _ kept (IsRefused fault) = tt
-stays-sound parts input _ kept IsIgnored = kept
-stays-sound parts input _ kept (TakesStep answer step row moved_row among of fits e) =
-    put-sound moved_row.row parts.rows kept (subst SoundRowAfter e (step-kept parts.nodes parts.last step row (each_of IsSoundRow parts.rows row kept.each among) fits))
-stays-sound parts input _ kept (PutsIn name arguments moved_row free e) = put-sound moved_row.row parts.rows kept (subst SoundRowAfter e (sends-due-kept parts.last (new_row name arguments) (new-may name arguments)))
-stays-sound parts input _ kept (StartsAgain nodes is free) = begun-sound closed parts.rows (λ row. refl) kept-closed kept
-stays-sound parts input _ kept (GivesUp node is) = begun-sound (row_at_loss node) parts.rows (lost-name node) (lost-sound node) kept
+stays-sound parts input result kept h = grind (arith, put-sound, SoundRowAfter, step-kept, each_of, sends-due-kept, new-may, begun-sound, kept-closed, lost-name, lost-sound)
 
 -- so they do after each input
 pub rows-stay-sound : RowsStaySound

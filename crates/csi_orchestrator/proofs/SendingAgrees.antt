@@ -1,16 +1,16 @@
 -- Why a row whose due call is sent, or whose goal is dropped, tells what the history tells then.
-use Rattle.csi_orchestrator.proofs.Words.{◌≡◌, ℕ, List, ◌∷◌, true, false, refl, sym, ◌∙◌, ap, subst, Option, Some, None}
-use Rattle.csi_orchestrator.proofs.Words.{Result, Ok, Err, Number, kind_of, Frame, same_text, OrchFault, Attached}
-use Rattle.csi_orchestrator.proofs.Words.{Issued, touches, is_no, is_doing, Item, Sent, Noted, History, with_items}
-use Rattle.csi_orchestrator.proofs.Words.{open_call, last_number, IsNextNumber, IsWellFormed, next_number, Due}
-use Rattle.csi_orchestrator.proofs.Words.{due_call, MayIssue, Answer, Moved, sent_as, send_due, OrchestratorView}
+use Rattle.csi_orchestrator.proofs.Words.{◌≡◌, ℕ, List, ◌∷◌, true, false, refl, sym, ◌∙◌, ap, subst, Option, Some}
+use Rattle.csi_orchestrator.proofs.Words.{None, Result, Ok, Err, Number, kind_of, Frame, same_text, OrchFault}
+use Rattle.csi_orchestrator.proofs.Words.{Attached, Issued, touches, is_no, is_doing, Item, Sent, Noted, History}
+use Rattle.csi_orchestrator.proofs.Words.{with_items, open_call, last_number, IsNextNumber, IsWellFormed, next_number}
+use Rattle.csi_orchestrator.proofs.Words.{Due, due_call, MayIssue, Answer, Moved, sent_as, send_due, OrchestratorView}
 use Rattle.csi_orchestrator.proofs.Words.{Agrees, after_sent, after_noted, DetachesSomething, RowShown}
 use Rattle.csi_orchestrator.proofs.Words.{OrchestratorParts, node_entry_of, mark_in, orchestrator_view, Shows, due_in}
 use Rattle.csi_orchestrator.proofs.Words.{row_once_sent, dropped_row, outgoing_by, row_moved, row_sends_due, MovedRows}
-use Rattle.csi_orchestrator.proofs.Words.{put, all_rows_moved, AreGuarded, MovesAgree}
+use Rattle.csi_orchestrator.proofs.Words.{put, all_rows_moved, AreGuarded, MovesAgree, arith}
 use Rattle.csi_orchestrator.proofs.Lemmas.{false≢true, and_parts, same_text-tells}
 use Rattle.csi_orchestrator.proofs.DueCalls.{due-of-row}
-use Rattle.csi_orchestrator.proofs.DueCases.{IsDueFor, due-cases, ToAttach, ToDetach}
+use Rattle.csi_orchestrator.proofs.DueCases.{IsDueFor, due-cases}
 use Rattle.csi_orchestrator.proofs.ViewsFollow.{sent-follows, noted-follows}
 use Rattle.csi_orchestrator.proofs.AddedItems.{IsNextIfSome, is_next}
 use Rattle.csi_orchestrator.proofs.DueCallsGuarded.{due-guarded}
@@ -46,10 +46,7 @@ pub record IsReady (parts : OrchestratorParts) (history : History) (name : List 
 -- the one call that detaches is due where the volume may be attached
 detaching-something : (row : RowShown) (due : Due) (name node : List ℕ) (number : Number) → IsDueFor row due → touches (Attached name node) (issued-by name number due) ≡ true → is_doing due.call ≡ false
     → is_no (mark_in (λ entry. entry.attached) (node_entry_of row node)) ≡ false
-detaching-something row _ name node number (ToAttach usage id goal own a) of undoes = absurd (false≢true (sym undoes))
-detaching-something row _ name node number (ToDetach here target id goal own p o s a) of undoes =
-    ap (λ n. is_no (mark_in (λ entry. entry.attached) (node_entry_of row n))) ((same_text-tells node here).0 (and_parts (same_text name name) (same_text node here) of).1) ∙ a
-detaching-something row _ name node number other of undoes = absurd (false≢true of)
+detaching-something row due name node number other of undoes = grind (arith, false≢true, same_text-tells, and_parts)
 
 -- its due call is the one that is due by that history
 due-there : (parts : OrchestratorParts) (history : History) (name : List ℕ) (row : RowShown) (view : OrchestratorView) (items : List Item) → IsReady parts history name row view items → due_call (with_items history items) name ≡ due_in row

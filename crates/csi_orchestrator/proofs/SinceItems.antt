@@ -3,7 +3,7 @@ use Rattle.csi_orchestrator.proofs.Words.{◌≡◌, ℕ, List, [], ◌∷◌, �
 use Rattle.csi_orchestrator.proofs.Words.{subst, inl, inr, Option, Some, find, filter, IsAmong, Number, Status}
 use Rattle.csi_orchestrator.proofs.Words.{same_text, Thing, Issued, Item, Started, Lost, Forgotten, Sent, Accepted}
 use Rattle.csi_orchestrator.proofs.Words.{Closed, Noted, since, is_forgetting, ends, issued_by, issued_in, open_in}
-use Rattle.csi_orchestrator.proofs.Words.{AreWellFormed}
+use Rattle.csi_orchestrator.proofs.Words.{AreWellFormed, arith}
 use Rattle.csi_orchestrator.proofs.Lemmas.{none-some, among-append, some-found, in_filter}
 use Rattle.std.proofs.lemmas.List.Elements.{filter_map-append, filter-append}
 use Rattle.csi_orchestrator.specs.Model.History.{Goal}
@@ -71,13 +71,7 @@ open-since p breaks began name (Noted other goal ∷ older) call form e =
 -- what is first in a list, and in the part in front, is first there
 first-in-front : {X : Type 0} (xs ys others : List X) (x y : X) → IsAmong y xs → xs ++ ys ≡ x ∷ others → (front : List X) × (xs ≡ x ∷ front) × (others ≡ front ++ ys)
 first-in-front [] ys others x y among is = absurd among
-first-in-front (z ∷ zs) ys others x y among is = (zs, ap (λ h. h ∷ zs) (head is), sym (tail is))
-  where
-    head : z ∷ (zs ++ ys) ≡ x ∷ others → z ≡ x
-    head h = cc
-
-    tail : z ∷ (zs ++ ys) ≡ x ∷ others → zs ++ ys ≡ others
-    tail h = cc
+first-in-front (z ∷ zs) ys others x y among is = grind arith
 
 -- the same of what a list has
 pub filter-in-front : {X : Type 0} (q : X → Bool) (all xs ys others : List X) (x y : X) → all ≡ xs ++ ys → IsAmong y xs → q y ≡ true → filter q all ≡ x ∷ others

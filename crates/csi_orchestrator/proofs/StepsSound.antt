@@ -1,16 +1,15 @@
 -- Why a row that takes a step stays as an orchestrator's type keeps it, and what is due for it may be wanted.
 use Rattle.csi_orchestrator.proofs.Words.{◌≡◌, ℕ, List, [], ◌∷◌, Bool, true, false, cond, not, refl, sym, ◌∙◌, ap}
 use Rattle.csi_orchestrator.proofs.Words.{subst, Option, Some, None, is_some, is_none, Result, Ok, Err, AllByRecursion}
-use Rattle.csi_orchestrator.proofs.Words.{list_any, Kind, Party, Number, Reply, kind_of, is_ok_status, same_text}
-use Rattle.csi_orchestrator.proofs.Words.{has_capability, OrchFault, Goal, Create, Use, Step, Known, Yes, No, Maybe}
-use Rattle.csi_orchestrator.proofs.Words.{is_yes, is_no, Arguments, next_number, is_for_one_node, uses_as_second_writer}
-use Rattle.csi_orchestrator.proofs.Words.{Due, kind_due, IsDueSuccess, NodeEntryShown, RowShown, node_entry_of}
-use Rattle.csi_orchestrator.proofs.Words.{open_in_row, closed, due_in, known_by_success_of, wanted_row, stopped_goal}
-use Rattle.csi_orchestrator.proofs.Words.{new_row, has_elsewhere, is_entry_otherwise, use_refusal}
-use Rattle.csi_orchestrator.proofs.Words.{is_attached_somewhere, step_refusal, late_refusal, MovedRow, outgoing_by}
-use Rattle.csi_orchestrator.proofs.Words.{row_moved, row_sends_due, row_rests, row_unless, is_step_met, waits}
-use Rattle.csi_orchestrator.proofs.Words.{is_given_up, timed_out, failed, row_before_call, row_step, is_issued_as}
-use Rattle.csi_orchestrator.proofs.Words.{step_heard, MayBeWanted, IsSoundRow}
+use Rattle.csi_orchestrator.proofs.Words.{list_any, Kind, Party, Number, Reply, is_ok_status, OrchFault, Goal}
+use Rattle.csi_orchestrator.proofs.Words.{Step, Known, Yes, No, Maybe, is_yes, is_no, Arguments, next_number}
+use Rattle.csi_orchestrator.proofs.Words.{is_for_one_node, uses_as_second_writer, Due, kind_due, IsDueSuccess}
+use Rattle.csi_orchestrator.proofs.Words.{NodeEntryShown, RowShown, node_entry_of, open_in_row, closed, due_in}
+use Rattle.csi_orchestrator.proofs.Words.{known_by_success_of, wanted_row, stopped_goal, new_row, has_elsewhere}
+use Rattle.csi_orchestrator.proofs.Words.{is_entry_otherwise, use_refusal, is_attached_somewhere, step_refusal}
+use Rattle.csi_orchestrator.proofs.Words.{MovedRow, outgoing_by, row_moved, row_sends_due, row_unless, is_given_up}
+use Rattle.csi_orchestrator.proofs.Words.{timed_out, failed, row_before_call, row_step, is_issued_as, step_heard}
+use Rattle.csi_orchestrator.proofs.Words.{MayBeWanted, IsSoundRow, arith}
 use Rattle.csi_orchestrator.proofs.Lemmas.{false≢true, or_parts, none-from_is_some}
 use Rattle.csi_orchestrator.specs.declared.fault.OrchFault.TheVariants as faults
 use Rattle.csi_orchestrator.specs.declared.step.Step.TheVariants as steps
@@ -27,17 +26,11 @@ pub record MaySendDue (row : RowShown) : Type 0 where
 
 -- where nothing is refused, the first reason doesn't hold, and none of the others does
 pub first-held : (b : Bool) (fault : OrchFault) (rest : Option OrchFault) → cond b (Some fault) rest ≡ None → (b ≡ false) × (rest ≡ None)
-first-held true fault rest e = absurd (clash e)
-  where
-    clash : Some fault ≡ None → ⊥
-    clash h = cc
-first-held false fault rest e = (refl, e)
+first-held b fault rest e = grind arith
 
 -- what fails the test of not being Yes is Yes
 pub is-made : (k : Known) → not (is_yes k) ≡ false → k ≡ Yes
-is-made Yes e = refl
-is-made No e = absurd (false≢true (sym e))
-is-made Maybe e = absurd (false≢true (sym e))
+is-made k e = grind (arith, false≢true)
 
 -- a use that isn't refused
 pub record IsFree (usage : Usage) (row : RowShown) : Type 0 where
@@ -49,15 +42,7 @@ pub record IsFree (usage : Usage) (row : RowShown) : Type 0 where
 
 -- where nothing refuses a use, it is free in this sense
 pub use-free : (nodes : List (List ℕ)) (usage : Usage) (row : RowShown) → use_refusal nodes usage row ≡ None → IsFree usage row
-use-free nodes usage row free =
-    let made = first-held (not (is_yes row.exists)) faults.NotCreated _ free in
-    let busy = first-held (is_some row.goal) faults.Busy _ made.1 in
-    let known = first-held (not (list_any (same_text usage.node) nodes)) faults.NoSuchNode _ busy.1 in
-    let capable = first-held (not (has_capability row.arguments.capabilities usage.capability)) faults.NotCapable _ known.1 in
-    let one_node = first-held (has_elsewhere (is_for_one_node usage) usage.node row) faults.HeldElsewhere _ capable.1 in
-    let one_writer = first-held (has_elsewhere (uses_as_second_writer usage) usage.node row) faults.WriterElsewhere _ one_node.1 in
-    let alike = first-held (is_entry_otherwise usage (node_entry_of row usage.node)) faults.HeldOtherwise _ one_writer.1 in
-    record { made = is-made row.exists made.0; idle = none-from_is_some row.goal busy.0; one_node = one_node.0; one_writer = one_writer.0; alike = alike.0 }
+use-free nodes usage row free = grind (arith, first-held, is-made, none-from_is_some)
 
 -- a volume that may be attached nowhere is attached nowhere
 all-detached : (entries : List NodeEntryShown) → list_any (λ (entry : NodeEntryShown). not (is_no entry.attached)) entries ≡ false → AllByRecursion (λ (entry : NodeEntryShown). entry.attached ≡ No) entries
@@ -84,19 +69,11 @@ timed-out-may row (Some goal) e own = by_if MaySendDue (is_given_up row) _ _ (λ
 
 -- a row whose call failed
 failed-may : (row : RowShown) (goal : Option Goal) → row.goal ≡ goal → IsSoundRow row → MaySendDue (failed row goal)
-failed-may row (Some Create) e own = record { distinct = kept-distinct row own; may = λ due f. tt }
-failed-may row (Some (Use usage)) e own = stopped-may row (Use usage) e own
-failed-may row goal e own = closed-may row own
+failed-may row goal e own = grind (arith, kept-distinct, stopped-may, closed-may)
 
 -- the kind of the due call fits the goal
 kind-fits : (row : RowShown) (kind : Kind) → kind_due (due_in row) ≡ Some kind → FitsGoal row.goal kind
-kind-fits row kind is = by (due_in row) refl is
-  where
-    by : (due : Option Due) → due_in row ≡ due → kind_due due ≡ Some kind → FitsGoal row.goal kind
-    by None e of = cc
-    by (Some due) e of =
-        let own : kind_of due.call ≡ kind = cc in
-        subst (FitsGoal row.goal) own (due-fits-goal row due e)
+kind-fits row kind is = grind (arith, FitsGoal, due-fits-goal)
 
 -- so it is of each row that took a step which isn't refused at once
 pub changed-may : (nodes : List (List ℕ)) (last : Number) (step : Step) (row : RowShown) → IsSoundRow row → IsDueSuccess step row → step_refusal nodes last step row ≡ None → MaySendDue (row_before_call step row)
@@ -140,11 +117,7 @@ unless-kept (Some fault) result f = tt
 
 -- whatever the step
 pub step-kept : (nodes : List (List ℕ)) (last : Number) (step : Step) (row : RowShown) → IsSoundRow row → IsDueSuccess step row → SoundRowAfter (row_step nodes last step row)
-step-kept nodes last step row own fits =
-    unless-kept (step_refusal nodes last step row) _
-    (λ free. by_if SoundRowAfter (is_step_met step row) (row_rests row) _ (λ met. own)
-    (λ unmet. by_if SoundRowAfter (waits step row) (row_rests (closed row)) _ (λ left. kept-closed row own)
-    (λ on. unless-kept (late_refusal last step row) _ (λ room. sends-due-kept last (row_before_call step row) (changed-may nodes last step row own fits free)))))
+step-kept nodes last step row own fits = grind (arith, unless-kept, by_if, kept-closed, sends-due-kept, changed-may)
 
 -- what a reply brings fits the row that it is to
 pub heard-fits : (row : RowShown) (number : Number) (party : Party) (kind : Kind) (reply : Reply) → is_issued_as number party kind (open_in_row row) ≡ true → IsSoundRow row → IsDueSuccess (step_heard kind reply) row

@@ -1,16 +1,15 @@
 -- The order of things is one: it is the order of their texts, one after the other.
 use Rattle.csi_orchestrator.proofs.Words.{◌≡◌, ℕ, ◌≤◌, List, [], ◌∷◌, Bool, false, get_or, refl, sym, ◌∙◌, ap, subst}
 use Rattle.csi_orchestrator.proofs.Words.{arith, nat_eq, nat_cmp, ordering_then, ordering_reverse, is_lt, is_eq}
-use Rattle.csi_orchestrator.proofs.Words.{eq_by_cmp, IsPermutation, IsSortedBy, slice_cmp, lists_total}
-use Rattle.csi_orchestrator.proofs.Words.{lists_ties, pointwise, pointwise_decides, bytes_decides, Thing, Exists}
-use Rattle.csi_orchestrator.proofs.Words.{Attached, Staged, Published, Known, EachTwo, text_order, thing_order}
-use Rattle.csi_orchestrator.proofs.Words.{IsInOrder}
+use Rattle.csi_orchestrator.proofs.Words.{eq_by_cmp, IsPermutation, IsSortedBy, slice_cmp, lists_total, lists_ties}
+use Rattle.csi_orchestrator.proofs.Words.{pointwise, pointwise_decides, bytes_decides, Thing, Exists, Attached, Staged}
+use Rattle.csi_orchestrator.proofs.Words.{Published, Known, EachTwo, thing_order, IsInOrder}
 use Rattle.std.specs.List.{IsDistinct}
 use Rattle.csi_orchestrator.proofs.Lemmas.{ranks_by, sorted_far, false≢true, two-by_places, two-more}
 use Rattle.std.specs.Cmp.{IsTotalOrder, nat_cmp_total, on_total, unsigned_ties}
 use Rattle.std.proofs.lemmas.Map.Keys.{IsDistinct-IsPermutation, apart_from_distinct}
 use Rattle.std.specs.declared.cmp.Ordering.{Ordering}
-use Rattle.std.specs.declared.cmp.Ordering.TheVariants.{Less, Equal, Greater}
+use Rattle.std.specs.declared.cmp.Ordering.TheVariants.{Less, Equal}
 use Rattle.csi_orchestrator.proofs.ThingsNoted.{AreTwoThings}
 
 -- what tells things apart: one text for each of the name, the node, being more than attached, and the target
@@ -31,12 +30,7 @@ then-equal order = refl
 
 -- the order of things is that one
 pub order-by_texts : (a b : Thing) → thing_order a b ≡ by_texts a b
-order-by_texts (Published name node target) (Published other there other_target) =
-    ap (λ r. ordering_then (text_order name other) (ordering_then (text_order node there) r)) (sym (then-equal (text_order target other_target)))
-order-by_texts (Exists name) (Exists other) = refl
-order-by_texts (Attached name node) (Exists other) = refl
-order-by_texts (Staged name node) (Exists other) = refl
-order-by_texts a b = refl
+order-by_texts a b = grind (arith, then-equal)
 
 -- it is a total order
 pub order-total : IsTotalOrder thing_order
@@ -58,11 +52,7 @@ texts-same a b e = (pointwise_decides bytes_decides a b).0 (texts-ties a b ∙ a
 
 -- things that have the same texts are the same
 same-by-texts : (a b : Thing) → texts_of a ≡ texts_of b → a ≡ b
-same-by-texts (Exists name) (Exists other) e = cc
-same-by-texts (Attached name node) (Attached other there) e = cc
-same-by-texts (Staged name node) (Staged other there) e = cc
-same-by-texts (Published name node target) (Published other there other_target) e = cc
-same-by-texts a b e = cc
+same-by-texts a b e = grind arith
 
 -- things that come in one place are the same
 pub order-same : (a b : Thing) → thing_order a b ≡ Equal → a ≡ b
@@ -85,12 +75,7 @@ place-flips a b = ap is_eq (order-total.antisymm a.0 b.0) ∙ reverse-level (thi
 
 -- different things don't come in one place
 places-differ : (a b : Thing × Known) → AreTwoThings a b → has_one_place a b ≡ false
-places-differ a b differ = by (thing_order a.0 b.0) refl
-  where
-    by : (r : Ordering) → thing_order a.0 b.0 ≡ r → is_eq r ≡ false
-    by Less e = refl
-    by Equal e = absurd (differ (order-same a.0 b.0 e))
-    by Greater e = refl
+places-differ a b differ = grind (arith, order-same)
 
 -- things of which no two come in one place are distinct
 distinct-things : (things : List (Thing × Known)) → EachTwo (λ a b. has_one_place a b ≡ false) things → IsDistinct has_one_place things
@@ -100,9 +85,7 @@ distinct-things (x ∷ xs) two = (two.0, distinct-things xs two.1)
 
 -- what doesn't fall and isn't level rises
 rises : (r : Ordering) → is_lt (ordering_reverse r) ≡ false → is_eq r ≡ false → r ≡ Less
-rises Less e f = refl
-rises Equal e f = absurd (false≢true (sym f))
-rises Greater e f = absurd (false≢true (sym e))
+rises r e f = grind (arith, false≢true)
 
 -- once entries of different things are sorted, each thing is there once and in order
 pub sorted-in-order : (from things : List (Thing × Known)) → EachTwo AreTwoThings from → IsPermutation from things → IsSortedBy (λ a b. is_lt (thing_order a.0 b.0)) things → IsInOrder things

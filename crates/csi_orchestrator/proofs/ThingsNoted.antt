@@ -1,11 +1,11 @@
 -- What the rows note is what they know, each thing once.
 use Rattle.csi_orchestrator.proofs.Words.{◌≡◌, ◌⊎◌, ℕ, List, [], ◌∷◌, ◌++◌, false, refl, sym, ◌∙◌, ap, subst, inl, inr}
-use Rattle.csi_orchestrator.proofs.Words.{Option, Some, None, find, flat_map, IsAmong, EachTwo, same_text, TargetEntry}
-use Rattle.csi_orchestrator.proofs.Words.{Thing, Exists, Attached, Staged, Published, Known, Yes, No, Maybe, name_in}
+use Rattle.csi_orchestrator.proofs.Words.{Option, Some, find, flat_map, IsAmong, EachTwo, same_text, TargetEntry}
+use Rattle.csi_orchestrator.proofs.Words.{Thing, Exists, Attached, Staged, Published, Known, No, name_in}
 use Rattle.csi_orchestrator.proofs.Words.{NodeEntryShown, RowShown, OrchestratorParts, row_of, node_entry_of, mark_in}
 use Rattle.csi_orchestrator.proofs.Words.{mark_of, publication_known, Shows, AreTargetsApart, IsSoundRow, AreSoundRows}
 use Rattle.csi_orchestrator.proofs.Words.{History, known, known_by_rows, noted, noted_of_target, noted_of_node}
-use Rattle.csi_orchestrator.proofs.Words.{noted_of_row, noted_in, ListsKnown, node_of_thing, target_of_thing}
+use Rattle.csi_orchestrator.proofs.Words.{noted_of_row, noted_in, ListsKnown, node_of_thing, target_of_thing, arith}
 use Rattle.csi_orchestrator.proofs.Lemmas.{false≢true, same_Some, each_of, all_of, among-append, among-find}
 use Rattle.csi_orchestrator.proofs.Lemmas.{among-right, among-joined, among-flat, in-flat, find-passes, two-joined}
 use Rattle.csi_orchestrator.proofs.Lemmas.{two-flat, same_text-tells}
@@ -23,27 +23,7 @@ pub record Lists (own : Thing → Type 0) (read : Thing → Known) (entries : Li
 
 -- what is noted of one thing
 one : (read : Thing → Known) (thing : Thing) (mark : Known) → read thing ≡ mark → Lists (λ t. t ≡ thing) read (noted thing mark)
-one read thing mark is = by mark is
-  where
-    some : (k : Known) → read thing ≡ k → (k ≡ No → ⊥) → Lists (λ t. t ≡ thing) read ((thing, k) ∷ [])
-    some k e other =
-        record {
-          told = λ entry among. there entry among;
-          lists = λ t m same f g. inl (λ i. (same i, (sym f ∙ ap read same ∙ e) i));
-          once = (tt, tt);
-        }
-      where
-        there : (entry : Thing × Known) → (entry ≡ (thing, k)) ⊎ ⊥ → (entry.0 ≡ thing) × (read entry.0 ≡ entry.1) × (entry.1 ≡ No → ⊥)
-        there entry (inl here) =
-            let same : entry.0 ≡ thing = ap (λ (x : Thing × Known). x.0) here in
-            let mark_is : entry.1 ≡ k = ap (λ (x : Thing × Known). x.1) here in
-            (same, ap read same ∙ e ∙ sym mark_is, λ no. other (sym mark_is ∙ no))
-        there entry (inr none) = absurd none
-
-    by : (k : Known) → read thing ≡ k → Lists (λ t. t ≡ thing) read (noted thing k)
-    by Yes e = some Yes e (λ h. cc)
-    by No e = record { told = λ entry among. absurd among; lists = λ t m same f g. absurd (g (sym f ∙ ap read same ∙ e)); once = tt }
-    by Maybe e = some Maybe e (λ h. cc)
+one read thing mark is = grind arith
 
 -- lists of different things, joined
 joined : (own other : Thing → Type 0) (read : Thing → Known) (xs ys : List (Thing × Known)) → Lists own read xs → Lists other read ys → ((t : Thing) → own t → other t → ⊥)
@@ -111,16 +91,11 @@ OfRows rows thing = (row : RowShown) × IsAmong row rows × OfRow row thing
 
 -- a thing of a node's entry is at that node
 node-of : (row : RowShown) (node_entry : NodeEntryShown) (thing : Thing) → OfNode row node_entry thing → node_of_thing thing ≡ Some node_entry.node
-node-of row node_entry thing (inl (inl is)) = ap node_of_thing is
-node-of row node_entry thing (inl (inr is)) = ap node_of_thing is
-node-of row node_entry thing (inr target_entry) = ap node_of_thing target_entry.2
+node-of row node_entry thing h = grind arith
 
 -- a thing of a row is of its name
 name-of : (row : RowShown) (thing : Thing) → OfRow row thing → Some (name_in thing) ≡ Some row.name
-name-of row thing (inl is) = ap (λ t. Some (name_in t)) is
-name-of row thing (inr (node_entry, among, inl (inl is))) = ap (λ t. Some (name_in t)) is
-name-of row thing (inr (node_entry, among, inl (inr is))) = ap (λ t. Some (name_in t)) is
-name-of row thing (inr (node_entry, among, inr target_entry)) = ap (λ t. Some (name_in t)) target_entry.2
+name-of row thing h = grind arith
 
 -- what a node's entry notes is what the rows know of its things, each thing once
 node-lists : (rows : List RowShown) (row : RowShown) (node_entry : NodeEntryShown) → row_of rows row.name ≡ Some row → node_entry_of row node_entry.node ≡ Some node_entry → AreTargetsApart node_entry
@@ -169,11 +144,7 @@ rows-list rows kept =
 -- the entry of a text, where what is read of it isn't No
 entry-of : {X : Type 0} (key : X → List ℕ) (read : X → Known) (text : List ℕ) (xs : List X) → (mark_in read (find (λ x. same_text (key x) text) xs) ≡ No → ⊥)
     → (x : X) × IsAmong x xs × (text ≡ key x) × (read x ≡ No → ⊥)
-entry-of key read text xs other = by (find (λ x. same_text (key x) text) xs) refl other
-  where
-    by : (o : Option _) → find (λ x. same_text (key x) text) xs ≡ o → (mark_in read o ≡ No → ⊥) → (x : _) × IsAmong x xs × (text ≡ key x) × (read x ≡ No → ⊥)
-    by None e f = absurd (f refl)
-    by (Some x) e f = (x, among-find (λ x. same_text (key x) text) xs x e, sym ((same_text-tells (key x) text).0 (find-passes (λ x. same_text (key x) text) xs x e)), f)
+entry-of key read text xs other = grind (arith, among-find, same_text-tells, find-passes)
 
 -- a thing that the rows don't know as No is of one of them
 pub known-of : (rows : List RowShown) (thing : Thing) → (known_by_rows rows thing ≡ No → ⊥) → OfRows rows thing

@@ -1,11 +1,11 @@
 -- What holds of a row once an entry for a use was put in.
-use Rattle.csi_orchestrator.proofs.Words.{◌≡◌, ℕ, List, [], ◌∷◌, ◌++◌, Bool, true, false, cond, not, refl, sym, ◌∙◌, ap}
-use Rattle.csi_orchestrator.proofs.Words.{Option, Some, None, find, is_some, ◌&&◌, AllByRecursion, list_any, same_text}
-use Rattle.csi_orchestrator.proofs.Words.{same_flag, same_capability, Use, TargetEntry, Yes, is_no, Held}
-use Rattle.csi_orchestrator.proofs.Words.{is_for_one_node, uses_as_second_writer, NodeEntryShown, RowShown}
-use Rattle.csi_orchestrator.proofs.Words.{node_entry_of, target_entry_of, AreTargetsApart, wanted_row, new_target_entry}
-use Rattle.csi_orchestrator.proofs.Words.{with_target, held_as, entry_for, with_entry, is_so_elsewhere, has_elsewhere}
-use Rattle.csi_orchestrator.proofs.Words.{is_entry_otherwise, put_by, IsUsable}
+use Rattle.csi_orchestrator.proofs.Words.{◌≡◌, ℕ, List, [], ◌∷◌, ◌++◌, Bool, true, false, cond, refl, ◌∙◌, ap, Option}
+use Rattle.csi_orchestrator.proofs.Words.{Some, None, find, is_some, AllByRecursion, list_any, same_text, same_flag}
+use Rattle.csi_orchestrator.proofs.Words.{Use, TargetEntry, Yes, Held, is_for_one_node}
+use Rattle.csi_orchestrator.proofs.Words.{uses_as_second_writer, NodeEntryShown, RowShown, node_entry_of}
+use Rattle.csi_orchestrator.proofs.Words.{target_entry_of, AreTargetsApart, wanted_row, new_target_entry, with_target}
+use Rattle.csi_orchestrator.proofs.Words.{held_as, entry_for, with_entry, is_so_elsewhere, has_elsewhere}
+use Rattle.csi_orchestrator.proofs.Words.{is_entry_otherwise, put_by, IsUsable, arith}
 use Rattle.csi_orchestrator.proofs.Lemmas.{false≢true, and_parts, not-false, each_of, among-find, none_passes}
 use Rattle.csi_orchestrator.proofs.Lemmas.{two-append, find-append_one, find-passes, same_text-tells}
 use Rattle.csi_orchestrator.proofs.Lemmas.{same_capability-tells}
@@ -26,13 +26,7 @@ pub record Serves (usage : Usage) (node_entry : NodeEntryShown) : Type 0 where
 
 -- the target has its entry among these, which stay apart
 with-target-apart : (target : List ℕ) (node_entry : NodeEntryShown) → AreTargetsApart node_entry → AreTargetsApart (record node_entry { target_entries = with_target target node_entry.target_entries })
-with-target-apart target node_entry apart = by (target_entry_of node_entry target) refl
-  where
-    by : (o : Option TargetEntry) → target_entry_of node_entry target ≡ o → AreTargetsApart (record node_entry { target_entries = cond (is_some o) node_entry.target_entries (node_entry.target_entries ++ new_target_entry target ∷ []) })
-    by (Some target_entry) e = apart
-    by None e =
-        two-append (λ (a b : TargetEntry). same_text a.target b.target ≡ false) node_entry.target_entries (new_target_entry target) apart
-        (λ target_entry among. none_passes (λ (a : TargetEntry). same_text a.target target) node_entry.target_entries target_entry e among)
+with-target-apart target node_entry apart = grind (arith, two-append, none_passes)
 
 -- the target's entry is found among them
 with-target-found : (target : List ℕ) (target_entries : List TargetEntry) → (target_entry : TargetEntry) × (find (λ (a : TargetEntry). same_text a.target target) (with_target target target_entries) ≡ Some target_entry)
@@ -45,9 +39,7 @@ with-target-found target target_entries = by (find (λ (a : TargetEntry). same_t
 
 -- flags that pass the test are equal
 pub flag-same : (a b : Bool) → same_flag a b ≡ true → a ≡ b
-flag-same true b h = sym h
-flag-same false true h = absurd (false≢true h)
-flag-same false false h = refl
+flag-same a b h = grind (arith, false≢true)
 
 -- an entry by which the volume is held for a use, where it isn't held otherwise
 pub record IsHeldFor (usage : Usage) (node_entry held : NodeEntryShown) : Type 0 where
@@ -57,14 +49,7 @@ pub record IsHeldFor (usage : Usage) (node_entry held : NodeEntryShown) : Type 0
 
 -- an entry by which it isn't held otherwise is so, once it is held for the use
 pub held-for : (usage : Usage) (node_entry : NodeEntryShown) → is_entry_otherwise usage (Some node_entry) ≡ false → IsHeldFor usage node_entry (held_as usage node_entry)
-held-for usage node_entry fits = by (is_no node_entry.attached) fits
-  where
-    by : (b : Bool) → (not b && not (same_capability node_entry.capability usage.capability && same_flag node_entry.readonly usage.readonly)) ≡ false
-        → IsHeldFor usage node_entry (cond b (record node_entry { capability = usage.capability; readonly = usage.readonly }) node_entry)
-    by true e = record { same_node = refl; as_capable = refl; as_flagged = refl }
-    by false e =
-        let both = and_parts (same_capability node_entry.capability usage.capability) (same_flag node_entry.readonly usage.readonly) (not-false _ e) in
-        record { same_node = refl; as_capable = (same_capability-tells node_entry.capability usage.capability).0 both.0; as_flagged = flag-same node_entry.readonly usage.readonly both.1 }
+held-for usage node_entry fits = grind (arith, and_parts, not-false, same_capability-tells, flag-same)
 
 -- the entry for a use serves it
 entry-serves : (usage : Usage) (row : RowShown) → AllByRecursion AreTargetsApart row.node_entries → is_entry_otherwise usage (node_entry_of row usage.node) ≡ false

@@ -8,33 +8,30 @@ use Rattle.csi_orchestrator.proofs.Words.{is_published, is_way, is_at_target}
 use Rattle.csi_orchestrator.proofs.Lemmas.{and_from, and_parts, eq-eqb, false≢true, each-weaker}
 use Rattle.csi_orchestrator.proofs.EntryRules.{AreApart}
 use Rattle.csi_orchestrator.proofs.HasOnes.{others-of}
-use Rattle.csi_orchestrator.proofs.Judged.{implied-from, from-implied, all-from, from-all, all-shown, shown-all, empty-from}
+use Rattle.csi_orchestrator.proofs.Tells.{Tells, never, passes, like, same_test, yes_tells, empty, both, where_so, each, each_shown}
 use Rattle.csi_orchestrator.proofs.KnownTests.{yes_is_yes}
 
 -- ---- what the walk tests alone
 
 -- of a list that is walked along so, as it is shown, one is so
-pub one-from : {R X : Type 0} (view : R → X) (key : X → List ℕ) (text : List ℕ) (P Q : X → Type 0) (here other : R → Bool) (walk : List R → Bool) → walk [] ≡ false
-    → ((r : R) (rs : List R) → walk (r ∷ rs) ≡ cond (same_text (key (view r)) text) (here r && list_all other rs) (other r && walk rs)) → ((r : R) → other r ≡ true → Q (view r))
-    → (rs : List R) → ((r : R) → IsAmong (view r) (map view rs) → here r ≡ true → P (view r)) → AreApart key (map view rs) → walk rs ≡ true → HasOne key text P Q (map view rs)
-one-from view key text P Q here other walk ends on rest [] turns apart h = absurd (false≢true (sym ends ∙ h))
-one-from view key text P Q here other walk ends on rest (r ∷ rs) turns apart h =
-    by (same_text (key (view r)) text) refl (sym (on r rs) ∙ h) (λ e. one-from view key text P Q here other walk ends on rest rs (λ s among. turns s (inr among)) apart.1 e)
+pub one_tells : {R X : Type 0} (view : R → X) (key : X → List ℕ) (text : List ℕ) (P Q : X → Type 0) (here other : R → Bool) (walk : List R → Bool) → walk [] ≡ false
+    → ((r : R) (rs : List R) → walk (r ∷ rs) ≡ cond (same_text (key (view r)) text) (here r && list_all other rs) (other r && walk rs)) → ((r : R) → Tells (other r) (Q (view r)))
+    → (rs : List R) → ((r : R) → IsAmong (view r) (map view rs) → Tells (here r) (P (view r))) → AreApart key (map view rs) → Tells (walk rs) (HasOne key text P Q (map view rs))
+one_tells view key text P Q here other walk ends on rest [] own apart = same_test ends (never (λ one. one))
+one_tells view key text P Q here other walk ends on rest (r ∷ rs) own apart =
+    same_test (on r rs) (by (same_text (key (view r)) text) refl (one_tells view key text P Q here other walk ends on rest rs (λ s among. own s (inr among)) apart.1))
   where
-    by : (b : Bool) → same_text (key (view r)) text ≡ b → cond b (here r && list_all other rs) (other r && walk rs) ≡ true → (walk rs ≡ true → HasOne key text P Q (map view rs)) → HasOne key text P Q (view r ∷ map view rs)
-    by true e k later = let parts = and_parts (here r) (list_all other rs) k in inl (e, turns r (inl refl) parts.0, others-of key text Q (view r) (map view rs) e apart.0 (all-shown view other Q rs rest parts.1))
-    by false e k later = let parts = and_parts (other r) (walk rs) k in inr (e, rest r parts.0, later parts.1)
-
--- and back
-pub from-one : {R X : Type 0} (view : R → X) (key : X → List ℕ) (text : List ℕ) (P Q : X → Type 0) (here other : R → Bool) (walk : List R → Bool)
-    → ((r : R) (rs : List R) → walk (r ∷ rs) ≡ cond (same_text (key (view r)) text) (here r && list_all other rs) (other r && walk rs)) → ((r : R) → Q (view r) → other r ≡ true) → ((r : R) → P (view r) → here r ≡ true)
-    → (rs : List R) → HasOne key text P Q (map view rs) → walk rs ≡ true
-from-one view key text P Q here other walk on rest so [] one = absurd one
-from-one view key text P Q here other walk on rest so (r ∷ rs) (inl first) =
-    on r rs ∙ ap (λ b. cond b (here r && list_all other rs) (other r && walk rs)) first.0
-    ∙ and_from (here r) (list_all other rs) (so r first.1) (shown-all view other Q rs rest (each-weaker (λ y. (same_text (key y) text ≡ false) × Q y) Q (map view rs) (λ y own. own.1) first.2))
-from-one view key text P Q here other walk on rest so (r ∷ rs) (inr later) =
-    on r rs ∙ ap (λ b. cond b (here r && list_all other rs) (other r && walk rs)) later.0 ∙ and_from (other r) (walk rs) (rest r later.1) (from-one view key text P Q here other walk on rest so rs later.2)
+    by : (b : Bool) → same_text (key (view r)) text ≡ b → Tells (walk rs) (HasOne key text P Q (map view rs)) → Tells (cond b (here r && list_all other rs) (other r && walk rs)) (HasOne key text P Q (view r ∷ map view rs))
+    by true e later = like (both (own r (inl refl)) (each_shown view other Q rest rs)) (λ is. inl (e, is.0, others-of key text Q (view r) (map view rs) e apart.0 is.1)) back
+      where
+        back : HasOne key text P Q (view r ∷ map view rs) → P (view r) × AllByRecursion Q (map view rs)
+        back (inl first) = (first.1, each-weaker (λ y. (same_text (key y) text ≡ false) × Q y) Q (map view rs) (λ y otherwise. otherwise.1) first.2)
+        back (inr more) = absurd (false≢true (sym more.0 ∙ e))
+    by false e later = like (both (rest r) later) (λ is. inr (e, is.0, is.1)) back
+      where
+        back : HasOne key text P Q (view r ∷ map view rs) → Q (view r) × HasOne key text P Q (map view rs)
+        back (inl first) = absurd (false≢true (sym e ∙ first.0))
+        back (inr more) = (more.1, more.2)
 
 -- ---- what comes last
 
@@ -48,18 +45,14 @@ last-later : {X : Type 0} (key : X → List ℕ) (text : List ℕ) (x : X) (xs :
 last-later key text x [] other last = absurd (false≢true (sym other ∙ last))
 last-later key text x (y ∷ ys) other last = last
 
--- a list of other texts doesn't end in this one
-ends-otherwise : {X : Type 0} (key : X → List ℕ) (text : List ℕ) (Q : X → Type 0) (xs : List X) → AllByRecursion (λ y. (same_text (key y) text ≡ false) × Q y) xs → IsLast key text xs → ⊥
-ends-otherwise key text Q [] all last = last
-ends-otherwise key text Q (x ∷ xs) all last = ends-otherwise key text Q xs all.1 (last-later key text x xs all.0.0 last)
-
--- so nothing stands behind the last one
+-- nothing of other texts stands behind the last one
 only-last : {X : Type 0} (key : X → List ℕ) (text : List ℕ) (Q : X → Type 0) (x : X) (xs : List X) → AllByRecursion (λ y. (same_text (key y) text ≡ false) × Q y) xs → IsLast key text (x ∷ xs) → xs ≡ []
 only-last key text Q x [] all last = refl
-only-last key text Q x (y ∷ ys) all last = absurd (ends-otherwise key text Q (y ∷ ys) all last)
+only-last key text Q x (y ∷ []) all last = absurd (false≢true (sym all.0.0 ∙ last))
+only-last key text Q x (y ∷ z ∷ zs) all last = grind (arith, (only-last key text Q y (z ∷ zs) all.1 last))
 
 -- a list of which one is so has one
-one-some : {X : Type 0} (key : X → List ℕ) (text : List ℕ) (P Q : X → Type 0) (xs : List X) → HasOne key text P Q xs → length xs ≡ 0 → ⊥
+one-some : {X : Type 0} (key : X → List ℕ) (text : List ℕ) (P Q : X → Type 0) (xs : List X) → HasOne key text P Q xs → length xs ≢ 0
 one-some key text P Q [] one none = one
 one-some key text P Q (x ∷ xs) one none = absurd (omega (arith, none))
 
@@ -74,34 +67,27 @@ pub maybe-yes : Maybe ≢ Yes
 maybe-yes e = cc
 
 -- a call that is on its way is at work, where the target is alone unless the volume is staged
-way-work : (alone : Bool) (attached staged published : Known) → is_way alone attached staged published ≡ true → IsAtWork attached staged published × (staged ≢ Yes → alone ≡ true)
-way-work alone Maybe No No h = (tt, λ other. h)
-way-work alone Yes Maybe No h = (tt, λ other. h)
-way-work alone Yes Yes Maybe h = (tt, λ other. absurd (other refl))
-way-work alone attached staged published h = absurd (false≢true h)
-
--- and back
-work-way : (alone : Bool) (attached staged published : Known) → IsAtWork attached staged published → (staged ≢ Yes → alone ≡ true) → is_way alone attached staged published ≡ true
-work-way alone Maybe No No work f = f no-yes
-work-way alone Yes Maybe No work f = f maybe-yes
-work-way alone Yes Yes Maybe work f = refl
-work-way alone attached staged published work f = absurd work
-
--- the target is published so, and each other one is published
-abbrev OneTarget : List ℕ → Known → List TargetEntry → Type 0
-OneTarget target published targets = HasOne (λ (t : TargetEntry). t.target) target (λ (t : TargetEntry). t.published ≡ published) (λ (t : TargetEntry). t.published ≡ Yes) targets
+way : (alone : Bool) (attached staged published : Known) → Tells (is_way alone attached staged published) (IsAtWork attached staged published × (staged ≢ Yes → alone ≡ true))
+way alone attached staged published = grind (arith, like, passes, no-yes, maybe-yes, never)
 
 -- the target comes last
 abbrev pub TargetLast : List ℕ → List TargetEntry → Type 0
 TargetLast target targets = IsLast (λ (t : TargetEntry). t.target) target targets
 
--- what the walk along targets tells
+-- what the walk along targets tells: the target is published so, and each other one is published
 record AreMarkedSo (must : Bool) (attached staged : Known) (target : List ℕ) (first : Bool) (targets : List TargetEntry) : Type 0 where
   pub published : Known
   pub marks : IsAtWork attached staged published
-  pub one : OneTarget target published targets
+  pub one : HasOne (λ (t : TargetEntry). t.target) target (λ (t : TargetEntry). t.published ≡ published) (λ (t : TargetEntry). t.published ≡ Yes) targets
   pub alone : staged ≢ Yes → (first ≡ true) × (length targets ≡ 1)
   pub last : must ≡ true → TargetLast target targets
+
+-- the walk's test of the target, and of those behind it
+here_tells : (must first : Bool) (attached staged published : Known) (later : List TargetEntry)
+    → Tells (is_way (first && (length later == 0)) attached staged published && ((not must || (length later == 0)) && list_all is_published later))
+    ((IsAtWork attached staged published × (staged ≢ Yes → (first && (length later == 0)) ≡ true)) × ((must ≡ true → later ≡ []) × AllByRecursion (λ (u : TargetEntry). u.published ≡ Yes) later))
+here_tells must first attached staged published later =
+    both (way (first && (length later == 0)) attached staged published) (both (where_so must (empty later)) (each is_published (λ (u : TargetEntry). u.published ≡ Yes) (λ u. yes_tells u.published) later))
 
 -- by the test
 targets-from : (must : Bool) (attached staged : Known) (target : List ℕ) (first : Bool) (targets : List TargetEntry) → AreApart (λ (t : TargetEntry). t.target) targets → is_at_target must attached staged target first targets ≡ true
@@ -115,59 +101,51 @@ targets-from must attached staged target first (t ∷ later) apart h = by (same_
     by : (b : Bool) → same_text t.target target ≡ b → cond b here (is_published t && is_at_target must attached staged target false later) ≡ true
         → (is_at_target must attached staged target false later ≡ true → AreMarkedSo must attached staged target false later) → AreMarkedSo must attached staged target first (t ∷ later)
     by true e k rest =
-        let one = and_parts (is_way (first && (length later == 0)) attached staged t.published) ((not must || (length later == 0)) && list_all is_published later) k in
-        let two = and_parts (not must || (length later == 0)) (list_all is_published later) one.1 in
-        let way = way-work (first && (length later == 0)) attached staged t.published one.0 in
+        let is = (here_tells must first attached staged t.published later).from k in
         record {
           published = t.published;
-          marks = way.0;
-          one = inl (e, refl, others-of (λ (u : TargetEntry). u.target) target (λ (u : TargetEntry). u.published ≡ Yes) t later e apart.0 (all-from is_published (λ (u : TargetEntry). u.published ≡ Yes) later (λ u f. yes_is_yes u.published f) two.1));
-          alone = λ other. let both = and_parts first (length later == 0) (way.1 other) in (both.0, ap (λ (us : List TargetEntry). length (t ∷ us)) (empty-from later both.1));
-          last = λ m. subst (λ (us : List TargetEntry). TargetLast target (t ∷ us)) (sym (empty-from later (implied-from must (length later == 0) two.0 m))) e;
+          marks = is.0.0;
+          one = inl (e, refl, others-of (λ (u : TargetEntry). u.target) target (λ (u : TargetEntry). u.published ≡ Yes) t later e apart.0 is.1.1);
+          alone = λ other. let only = (both (passes first) (empty later)).from (is.0.1 other) in (only.0, ap (λ (us : List TargetEntry). length (t ∷ us)) only.1);
+          last = λ m. subst (λ (us : List TargetEntry). TargetLast target (t ∷ us)) (sym (is.1.0 m)) e;
         }
     by false e k rest =
-        let one = and_parts (is_published t) (is_at_target must attached staged target false later) k in
-        let on : AreMarkedSo must attached staged target false later = rest one.1 in
+        let parts = and_parts (is_published t) (is_at_target must attached staged target false later) k in
+        let on : AreMarkedSo must attached staged target false later = rest parts.1 in
         record {
           published = on.published;
           marks = on.marks;
-          one = inr (e, yes_is_yes t.published one.0, on.one);
+          one = inr (e, yes_is_yes t.published parts.0, on.one);
           alone = λ other. absurd (false≢true (on.alone other).0);
           last = λ m. last-more (λ (u : TargetEntry). u.target) target t later (on.last m);
         }
 
 -- and back
-from-targets : (must : Bool) (attached staged : Known) (target : List ℕ) (first : Bool) (published : Known) (targets : List TargetEntry) → IsAtWork attached staged published → (staged ≢ Yes → (first ≡ true) × (length targets ≡ 1))
-    → (must ≡ true → TargetLast target targets) → OneTarget target published targets → is_at_target must attached staged target first targets ≡ true
-from-targets must attached staged target first published [] work alone last one = absurd one
-from-targets must attached staged target first published (t ∷ later) work alone last (inl own) =
-    let here = is_way (first && (length later == 0)) attached staged t.published && ((not must || (length later == 0)) && list_all is_published later) in
-    ap (λ b. cond b here (is_published t && is_at_target must attached staged target false later)) own.0
-    ∙ and_from (is_way (first && (length later == 0)) attached staged t.published) ((not must || (length later == 0)) && list_all is_published later)
-    (work-way (first && (length later == 0)) attached staged t.published (subst (IsAtWork attached staged) (sym own.1) work) (λ other. and_from first (length later == 0) (alone other).0 (eq-eqb (length later) 0 (none other))))
-    (and_from (not must || (length later == 0)) (list_all is_published later)
-    (from-implied must (length later == 0) (λ m. ap (λ (us : List TargetEntry). length us == 0) (only-last (λ (u : TargetEntry). u.target) target (λ (u : TargetEntry). u.published ≡ Yes) t later own.2 (last m))))
-    (from-all is_published (λ (u : TargetEntry). (same_text u.target target ≡ false) × (u.published ≡ Yes)) later (λ u e. ap is_yes e.1) own.2))
-  where
-    none : staged ≢ Yes → length later ≡ 0
-    none other = let long = (alone other).1 in omega (arith, long)
-from-targets must attached staged target first published (t ∷ later) work alone last (inr more) =
-    let here = is_way (first && (length later == 0)) attached staged t.published && ((not must || (length later == 0)) && list_all is_published later) in
-    ap (λ b. cond b here (is_published t && is_at_target must attached staged target false later)) more.0
-    ∙ and_from (is_published t) (is_at_target must attached staged target false later) (ap is_yes more.1)
-    (from-targets must attached staged target false published later work (λ other. absurd (none other)) (λ m. last-later (λ (u : TargetEntry). u.target) target t later more.0 (last m)) more.2)
-  where
-    none : staged ≢ Yes → ⊥
-    none other = let long = (alone other).1 in one-some (λ (u : TargetEntry). u.target) target (λ (u : TargetEntry). u.published ≡ published) (λ (u : TargetEntry). u.published ≡ Yes) later more.2 (omega (arith, long))
+from-targets : (must : Bool) (attached staged : Known) (target : List ℕ) (first : Bool) (targets : List TargetEntry) (is : AreMarkedSo must attached staged target first targets)
+    → HasOne (λ (t : TargetEntry). t.target) target (λ (t : TargetEntry). t.published ≡ is.published) (λ (t : TargetEntry). t.published ≡ Yes) targets → is_at_target must attached staged target first targets ≡ true
+from-targets must attached staged target first [] is one = absurd one
+from-targets must attached staged target first (t ∷ later) is (inl own) =
+    let otherwise = each-weaker (λ (u : TargetEntry). (same_text u.target target ≡ false) × (u.published ≡ Yes)) (λ (u : TargetEntry). u.published ≡ Yes) later (λ u own. own.1) own.2 in
+    let only : staged ≢ Yes → (first && (length later == 0)) ≡ true = λ other. let alone = is.alone other in and_from first (length later == 0) alone.0 (eq-eqb (length later) 0 (let long = alone.1 in omega (arith, long))) in
+    rw own.0
+    ((here_tells must first attached staged t.published later).back
+    ((subst (IsAtWork attached staged) (sym own.1) is.marks, only), (λ m. only-last (λ (u : TargetEntry). u.target) target (λ (u : TargetEntry). u.published ≡ Yes) t later own.2 (is.last m), otherwise)))
+from-targets must attached staged target first (t ∷ later) is (inr more) =
+    let later-is : AreMarkedSo must attached staged target false later =
+    record {
+      published = is.published;
+      marks = is.marks;
+      one = more.2;
+      alone = λ other. let long = (is.alone other).1 in absurd (one-some (λ (u : TargetEntry). u.target) target (λ (u : TargetEntry). u.published ≡ is.published) (λ (u : TargetEntry). u.published ≡ Yes) later more.2 (omega (arith, long)));
+      last = λ m. last-later (λ (u : TargetEntry). u.target) target t later more.0 (is.last m);
+    } in
+    rw more.0 (and_from (is_published t) (is_at_target must attached staged target false later) (ap is_yes more.1) (from-targets must attached staged target false later later-is more.2))
 
 -- an entry at which a goal is at work, by the test; its target is the last one where it must be
-pub marks-from : (must : Bool) (entry : NodeEntryShown) (target : List ℕ) → AreTargetsApart entry → is_at_target must entry.attached entry.staged target true entry.target_entries ≡ true
-    → HasMarks IsAtWork target entry × (must ≡ true → TargetLast target entry.target_entries)
-marks-from must entry target apart h =
-    let m = targets-from must entry.attached entry.staged target true entry.target_entries apart h in
-    (record { published = m.published; marks = m.marks; targets = m.one; alone = λ other. (m.alone other).1 }, m.last)
-
--- and back
-pub from-marks : (must : Bool) (entry : NodeEntryShown) (target : List ℕ) → HasMarks IsAtWork target entry → (must ≡ true → TargetLast target entry.target_entries)
-    → is_at_target must entry.attached entry.staged target true entry.target_entries ≡ true
-from-marks must entry target m last = from-targets must entry.attached entry.staged target true m.published entry.target_entries m.marks (λ other. (refl, m.alone other)) last m.targets
+pub marks_tell : (must : Bool) (entry : NodeEntryShown) (target : List ℕ) → AreTargetsApart entry
+    → Tells (is_at_target must entry.attached entry.staged target true entry.target_entries) (HasMarks IsAtWork target entry × (must ≡ true → TargetLast target entry.target_entries))
+marks_tell must entry target apart =
+    record {
+      from = λ h. let is = targets-from must entry.attached entry.staged target true entry.target_entries apart h in (record { published = is.published; marks = is.marks; targets = is.one; alone = λ other. (is.alone other).1 }, is.last);
+      back = λ is. from-targets must entry.attached entry.staged target true entry.target_entries (record { published = is.0.published; marks = is.0.marks; one = is.0.targets; alone = λ other. (refl, is.0.alone other); last = is.1 }) is.0.targets;
+    }

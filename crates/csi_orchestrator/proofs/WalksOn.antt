@@ -1,17 +1,14 @@
 -- How the test of a use goes on behind an entry of another node, and whether a node has targets.
-use Rattle.csi_orchestrator.proofs.Words.{◌≡◌, ◌<◌, ◌+◌, ℕ, List, ◌∷◌, get_or, drop, length, map, Bool, true, false}
-use Rattle.csi_orchestrator.proofs.Words.{cond, refl, sym, ◌∙◌, ap, ◌&&◌, ◌==◌, Option, Some, None, find, option_map}
-use Rattle.csi_orchestrator.proofs.Words.{list_all, same_text, Usage, NodeEntry, NodeEntryShown, node_entry_shown}
-use Rattle.csi_orchestrator.proofs.Words.{is_resting, uses_here, is_untargeted, is_use_on_the_way}
+use Rattle.csi_orchestrator.proofs.Words.{◌≡◌, ◌<◌, ◌+◌, ℕ, List, get_or, drop, length, map, Bool, true, false, refl}
+use Rattle.csi_orchestrator.proofs.Words.{sym, ◌∙◌, ap, ◌&&◌, ◌==◌, Option, Some, None, find, option_map, same_text}
+use Rattle.csi_orchestrator.proofs.Words.{Usage, NodeEntry, NodeEntryShown, node_entry_shown, is_resting}
+use Rattle.csi_orchestrator.proofs.Words.{is_untargeted, is_use_on_the_way, arith}
 use Rattle.csi_orchestrator.proofs.Lemmas.{drop_more, find-of_map}
 
 -- an entry of another node, and what is behind it
 pub use-walks : (usage : Usage) (entries : List NodeEntry) (place : ℕ) (entry : NodeEntry) → place < length entries → entry ≡ get_or entries place entry → same_text entry.node usage.node ≡ false
     → is_use_on_the_way usage (drop place entries) ≡ (is_resting entry && is_use_on_the_way usage (drop (place + 1) entries))
-use-walks usage entries place entry inside is other =
-    let later = drop (place + 1) entries in
-    ap (is_use_on_the_way usage) (drop_more entries place entry inside ∙ ap (λ (e : NodeEntry). e ∷ later) (sym is))
-    ∙ ap (λ b. cond b (uses_here usage entry && list_all is_resting later) (is_resting entry && is_use_on_the_way usage later)) other
+use-walks usage entries place entry inside is other = grind (arith, drop_more)
 
 -- an entry as it is shown, if there is one, has no targets
 untargeted_shown : Option NodeEntryShown → Bool

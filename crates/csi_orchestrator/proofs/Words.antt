@@ -1,8 +1,8 @@
 -- The names that most proofs of this crate cite, passed on from one place. Declares nothing.
 pub use Rattle.std.proofs.Common.{Bool, List, None, Ok, Some, [], ap, append-nil, append_assoc, arith, bytes_eq, cond}
 pub use Rattle.std.proofs.Common.{drop, false, filter, get_or, inl, inr, length, map, nat_cmp, not, refl, rules, set}
-pub use Rattle.std.proofs.Common.{subst, suc, sym, take, true, zero, ℕ, ⊎_elim, ◌*◌, ◌++◌, ◌+◌, ◌-◌, ◌<◌, ◌==◌, ◌^◌}
-pub use Rattle.std.proofs.Common.{◌||◌, ◌∙◌, ◌∷◌, ◌≡◌, ◌≢◌, ◌≤◌, ◌⊎◌}
+pub use Rattle.std.proofs.Common.{subst, suc, sym, take, true, zero, ℕ, ⊎_elim, ◌*◌, ◌++◌, ◌+◌, ◌<◌, ◌==◌, ◌^◌, ◌||◌}
+pub use Rattle.std.proofs.Common.{◌∙◌, ◌∷◌, ◌≡◌, ◌≢◌, ◌≤◌, ◌⊎◌}
 pub use Rattle.std.specs.BTreeSet.{contains_by}
 pub use Rattle.std.specs.Cmp.Lexicographic.{bytes_decides, lists_ties, lists_total, pointwise, pointwise_decides}
 pub use Rattle.std.specs.Cmp.Lexicographic.{slice_cmp}
@@ -30,10 +30,8 @@ pub use Rattle.csi_types.specs.Model.Call.{kind_of}
 pub use Rattle.csi_types.specs.Model.Frame.{Frame}
 pub use Rattle.csi_types.specs.Model.Number.{IsBefore, is_before}
 pub use Rattle.csi_types.specs.Model.Reply.{is_ok_status}
-pub use Rattle.csi_types.specs.Model.Same.{has_capability, same_capability, same_flag, same_kind, same_number}
-pub use Rattle.csi_types.specs.Model.Same.{same_party, same_text}
-pub use Rattle.csi_types.specs.Model.Sharing.{allows_one_target, are_two_writers, is_single_node, is_single_writer}
-pub use Rattle.csi_types.specs.Model.Sharing.{writes}
+pub use Rattle.csi_types.specs.Model.Same.{has_capability, same_flag, same_kind, same_number, same_party, same_text}
+pub use Rattle.csi_types.specs.Model.Sharing.{allows_one_target, are_two_writers, is_single_node}
 pub use Rattle.csi_orchestrator.specs.declared.catalog.Catalog.{Catalog}
 pub use Rattle.csi_orchestrator.specs.declared.decision.Decision.TheVariants.{Met, Refuse, Send, Wait}
 pub use Rattle.csi_orchestrator.specs.declared.fault.Heard.TheVariants.{Ignored}
@@ -59,8 +57,8 @@ pub use Rattle.csi_orchestrator.specs.Model.Commands.{is_for_one_node, is_held_o
 pub use Rattle.csi_orchestrator.specs.Model.Commands.{is_otherwise, is_session_spent, loss_fault, next_number}
 pub use Rattle.csi_orchestrator.specs.Model.Commands.{next_session, other_nodes, restart_fault, stop_fault}
 pub use Rattle.csi_orchestrator.specs.Model.Commands.{timeout_fault, use_fault, use_room_fault, uses_as_second_writer}
-pub use Rattle.csi_orchestrator.specs.Model.Due.{Due, attached_node, call_for, due_call, due_for, due_kind, due_leave}
-pub use Rattle.csi_orchestrator.specs.Model.Due.{due_stop, due_use, nodes_in_use, published_target, targets_in_use}
+pub use Rattle.csi_orchestrator.specs.Model.Due.{Due, attached_node, call_for, due_call, due_for, due_leave, due_stop}
+pub use Rattle.csi_orchestrator.specs.Model.Due.{due_use, nodes_in_use, published_target, targets_in_use}
 pub use Rattle.csi_orchestrator.specs.Model.History.{Accepted, Arguments, Closed, Forgotten, Held, History, Item, Lost}
 pub use Rattle.csi_orchestrator.specs.Model.History.{Noted, Sent, Started, history_after, with_items}
 pub use Rattle.csi_orchestrator.specs.Model.Moves.{Answer, Comes, GivenUp, Hears, Input, Loses, Moved, Restarted}
@@ -87,7 +85,7 @@ pub use Rattle.csi_orchestrator.specs.Model.WellFormed.{AreWellFormed, IsNextNum
 pub use Rattle.csi_orchestrator.specs.Private.Beginning.{is_use_at}
 pub use Rattle.csi_orchestrator.specs.Private.Catalog.{AreNotedBefore, IsClosedAt, IsLostAt, IsNextFor, IsNotedWith}
 pub use Rattle.csi_orchestrator.specs.Private.Catalog.{IsNumberedAfter, IsReady, outgoing_call_number}
-pub use Rattle.csi_orchestrator.specs.Private.Decisions.{decided, decided_at, decided_then, is_used_at, refused_or}
+pub use Rattle.csi_orchestrator.specs.Private.Decisions.{decided, decided_at, decided_then, refused_or}
 pub use Rattle.csi_orchestrator.specs.Private.Following.{DetachesSomething, after_accepted, after_closed}
 pub use Rattle.csi_orchestrator.specs.Private.Following.{after_forgotten, after_lost, after_noted, after_sent}
 pub use Rattle.csi_orchestrator.specs.Private.Following.{after_started, id_brought, known_by_success}
@@ -119,15 +117,15 @@ pub use Rattle.csi_orchestrator.specs.Private.RowRefusals.{is_last, is_left, lat
 pub use Rattle.csi_orchestrator.specs.Private.RowRefusals.{others_count, room_refusal, step_refusal, stop_refusal}
 pub use Rattle.csi_orchestrator.specs.Private.RowRefusals.{use_refusal}
 pub use Rattle.csi_orchestrator.specs.Private.RowSteps.{MovedRow, SendsNothing, failed, is_given_up, is_step_met}
-pub use Rattle.csi_orchestrator.specs.Private.RowSteps.{needs_entry, outgoing_by, row_before_call, row_moved, row_rests}
-pub use Rattle.csi_orchestrator.specs.Private.RowSteps.{row_sends_due, row_step, row_takes, row_unless, sent_or_dropped}
-pub use Rattle.csi_orchestrator.specs.Private.RowSteps.{timed_out, waits, waits_for}
+pub use Rattle.csi_orchestrator.specs.Private.RowSteps.{needs_entry, outgoing_by, row_before_call, row_moved}
+pub use Rattle.csi_orchestrator.specs.Private.RowSteps.{row_rests, row_sends_due, row_step, row_takes, row_unless}
+pub use Rattle.csi_orchestrator.specs.Private.RowSteps.{sent_or_dropped, timed_out, waits, waits_for}
 pub use Rattle.csi_orchestrator.specs.Private.Shown.{without_call}
 pub use Rattle.csi_orchestrator.specs.Private.Sound.{MovesAgree, MovesAreGuarded, RowsStaySound, RowsTell}
 pub use Rattle.csi_orchestrator.specs.Public.Beginning.{entry_at_loss, is_row_forgotten, is_used_in, leaves_out_used}
 pub use Rattle.csi_orchestrator.specs.Public.Beginning.{loss_refusal, parts_at_loss, remembered, restart_refusal}
 pub use Rattle.csi_orchestrator.specs.Public.Beginning.{restarted_parts, row_at_loss, stopped_at}
-pub use Rattle.csi_orchestrator.specs.Public.Bounds.{AreEntriesWithin, AreWithin, HasFewNodes, HasFewTargets, IsBounded}
+pub use Rattle.csi_orchestrator.specs.Public.Bounds.{AreEntriesWithin, AreWithin, HasFewTargets, IsBounded}
 pub use Rattle.csi_orchestrator.specs.Public.Bounds.{IsEntryWithin, IsRowFew, IsWithin}
 pub use Rattle.csi_orchestrator.specs.Public.Catalog.{AreUpTo, HasFewNotes, HasRoomForCalls, IsIndexed, IsNoted}
 pub use Rattle.csi_orchestrator.specs.Public.Catalog.{by_name, place_noted, rows_of}
@@ -136,8 +134,8 @@ pub use Rattle.csi_orchestrator.specs.Public.Changed.{place_by_call, place_by_na
 pub use Rattle.csi_orchestrator.specs.Public.CoreParts.{IsFiled, orchestrator_parts_shown}
 pub use Rattle.csi_orchestrator.specs.Public.Guards.{CanBeHeldToo, IsGuarded, MayIssue, holding_by}
 pub use Rattle.csi_orchestrator.specs.Public.Laws.{opened_parts}
-pub use Rattle.csi_orchestrator.specs.Public.Listing.{IsInOrder, ListsKnown, kind_place, node_of_thing, target_of_thing}
-pub use Rattle.csi_orchestrator.specs.Public.Listing.{text_order, thing_order}
+pub use Rattle.csi_orchestrator.specs.Public.Listing.{IsInOrder, ListsKnown, kind_place, node_of_thing}
+pub use Rattle.csi_orchestrator.specs.Public.Listing.{target_of_thing, text_order, thing_order}
 pub use Rattle.csi_orchestrator.specs.Public.Moves.{moved_to}
 pub use Rattle.csi_orchestrator.specs.Public.Record.{AreNodesFit, RecordParts}
 pub use Rattle.csi_orchestrator.specs.Public.Restored.{AreRestorable, IsRestorable}
@@ -150,9 +148,9 @@ pub use Rattle.csi_orchestrator.specs.Public.Sound.{AreGuarded, AreNodesApart, A
 pub use Rattle.csi_orchestrator.specs.Public.Sound.{HasHistory, IsNeeded, IsSoundRow, IsUsable, KeepsWhatIsNeeded}
 pub use Rattle.csi_orchestrator.specs.Public.Sound.{MayBeWanted}
 pub use Rattle.csi_orchestrator.specs.Public.Steady.{AreMarked, AreSteadyRows, AreSteadyRowsIf, CameLast, CanBeBeside}
-pub use Rattle.csi_orchestrator.specs.Public.Steady.{HasLast, HasMarks, HasOne, HasTries, IsAllowed, IsAtRest, IsAtWork}
-pub use Rattle.csi_orchestrator.specs.Public.Steady.{IsEmptyUnlessMade, IsInUse, IsLast, IsLeft, IsLeftSo, IsStanding}
-pub use Rattle.csi_orchestrator.specs.Public.Steady.{IsStandingIf, IsSteadyRow, IsSteadyRowIf, IsUntried}
+pub use Rattle.csi_orchestrator.specs.Public.Steady.{HasLast, HasMarks, HasOne, HasTries, IsAllowed, IsAtRest}
+pub use Rattle.csi_orchestrator.specs.Public.Steady.{IsAtWork, IsEmptyUnlessMade, IsInUse, IsLast, IsLeft, IsLeftSo}
+pub use Rattle.csi_orchestrator.specs.Public.Steady.{IsStanding, IsStandingIf, IsSteadyRow, IsSteadyRowIf, IsUntried}
 pub use Rattle.csi_orchestrator.specs.Public.Steps.{AreStepwise, Begins, GoesOn, IsReached, IsReplyTo, MayDoAll}
 pub use Rattle.csi_orchestrator.specs.Public.Steps.{MovesLaw, Opens, frame_if_sent, frame_of, frames_in, most_items}
 pub use Rattle.indexmap.specs.IndexMap.{IndexMap, Updates, get, index_map_len, insert_entry, spare, values}

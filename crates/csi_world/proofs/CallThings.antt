@@ -35,11 +35,7 @@ is_of plugin_thing issued = is_plugin_thing plugin_thing (plugin_thing_at issued
 
 -- the thing of a call of it
 pub of-thing-at : (thing : PluginThing) (call : Issued) → is_of thing call ≡ true → plugin_thing_at call.name call.party call.call ≡ Some thing
-of-thing-at thing call of = by (plugin_thing_at call.name call.party call.call) refl of
-  where
-    by : (o : Option PluginThing) → plugin_thing_at call.name call.party call.call ≡ o → is_plugin_thing thing o ≡ true → plugin_thing_at call.name call.party call.call ≡ Some thing
-    by None e of = absurd (false≢true of)
-    by (Some k) e of = e ∙ ap Some (sym ((same_plugin_thing-tells thing k).0 of))
+of-thing-at thing call of = grind (arith, false≢true, same_plugin_thing-tells)
 
 -- the call is for the plugin of its kind, and for a volume that has the name so
 abbrev pub IsFor : (List ℕ → ℕ → Type 0) → List ℕ → Party → Call → Type 0

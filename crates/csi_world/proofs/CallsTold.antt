@@ -1,5 +1,6 @@
 -- The history of an orchestrator that was made of what its plugins keep: calls that tell what the plugins have, each of them answered OK, numbered
 -- after every call that was ever sent.
+use Rattle.csi_world.proofs.Words.{arith}
 use Rattle.std.proofs.Common.{◌≡◌, ◌⊎◌, ℕ, List, [], ◌∷◌, filter, Bool, true, false, cond, Option, Some, None, option_map, refl, sym, ◌∙◌, ap, subst, inl, inr, ⊎_elim}
 use Rattle.std.specs.List.{AllByRecursion}
 use Rattle.std.proofs.lemmas.Bool.{false≢true}
@@ -247,13 +248,7 @@ plain-from is none (item ∷ older) plain = ap (λ b. cond b (item ∷ older) (f
 
 -- no such item ends a thing
 pub plain-ends : (thing : PluginThing) (item : Item) → IsPlain item → ends thing item ≡ false
-plain-ends thing (Started session nodes) plain = absurd plain
-plain-ends thing (Lost node) plain = absurd plain
-plain-ends thing (Forgotten name) plain = absurd plain
-plain-ends thing (Sent issued) plain = refl
-plain-ends thing (Accepted number status id) plain = refl
-plain-ends thing (Closed number) plain = refl
-plain-ends thing (Noted name goal) plain = refl
+plain-ends thing item plain = grind arith
 
 -- and it never ended
 pub plain-over : (began : Number) (thing : PluginThing) (items : List Item) → AllByRecursion IsPlain items → over_in began items thing ≡ 0

@@ -1,12 +1,11 @@
 -- What is so of a world after each choice.
 use Rattle.csi_world.proofs.Words.{◌≡◌, ℕ, ◌<◌, ◌≤◌, List, [], ◌∷◌, ◌++◌, map, Option, Some, None, refl, sym, ◌∙◌, ap}
 use Rattle.csi_world.proofs.Words.{subst, inl, inr, ⊎_elim, arith, Number, Reply, Status, kind_of, Config, Frame}
-use Rattle.csi_world.proofs.Words.{IsAmong, IsBefore, Party, Controller, Node, IsEmpty, PluginThing, StagedAs, Attached}
-use Rattle.csi_world.proofs.Words.{Staged, NodeState, Issued, Started, Sent, Accepted, Closed, Noted, History}
-use Rattle.csi_world.proofs.Words.{with_items, issued_in, last_number, World, node_id, empty_world, node_state}
-use Rattle.csi_world.proofs.Words.{with_history, Choice, Sends, Closes, Takes, Notes, Starts, Forgets, Answers, Joins}
-use Rattle.csi_world.proofs.Words.{Loses, Configures, MaySend, MayTake, MayChoose, MayChooseAll, chosen, chosen_all}
-use Rattle.csi_world.proofs.Words.{frame_of}
+use Rattle.csi_world.proofs.Words.{IsAmong, IsBefore, IsEmpty, StagedAs, Attached, Staged, NodeState, Issued, Started}
+use Rattle.csi_world.proofs.Words.{Sent, Accepted, Closed, Noted, History, with_items, issued_in, last_number, World}
+use Rattle.csi_world.proofs.Words.{node_id, empty_world, node_state, with_history, Choice, Sends, Closes, Takes, Notes}
+use Rattle.csi_world.proofs.Words.{Starts, Forgets, Answers, Joins, Loses, Configures, MaySend, MayTake, MayChoose}
+use Rattle.csi_world.proofs.Words.{MayChooseAll, chosen, chosen_all, frame_of}
 use Rattle.csi_world.proofs.Lemmas.{nat_tests, none-some, open-sent}
 use Rattle.csi_node.specs.Public.View.{empty_node}
 use Rattle.csi_world.proofs.WorldView.{party_of, node_view, over_at, plugin_view, view_of}
@@ -166,18 +165,7 @@ empty-node config id state h = let found = found-at id (empty_world config) stat
 
 -- in the empty world nothing is there, spent or kept
 empty-view : PluginLaws → (config : Config) → IsEmpty (view_of (empty_world config))
-empty-view laws config = record { held = λ thing. (at (party_of thing)).held thing; is_spent = λ thing. (at (party_of thing)).is_spent thing; kept = λ thing. (at (party_of thing)).kept thing }
-  where
-    over : PluginThing → ℕ
-    over = over_at (empty_world config)
-
-    node : (id : List ℕ) (o : Option NodeState) → node_state id (empty_world config) ≡ o → IsEmpty (node_view id over o)
-    node id None e = record { held = λ thing. refl; is_spent = λ thing number. not-over 0 number (omega arith); kept = λ thing. refl }
-    node id (Some state) e = subst (λ (s : NodeState). IsEmpty (node_view id over (Some s))) (sym (empty-node config id state e)) (laws.node.empty id)
-
-    at : (party : Party) → IsEmpty (plugin_view (empty_world config) party)
-    at Controller = laws.controller.empty
-    at (Node id) = node id (node_state id (empty_world config)) refl
+empty-view laws config = grind (arith, party_of, over_at, node_view, not-over, empty-node, plugin_view)
 
 -- what is kept of every world is so of the empty one
 pub empty-right : PluginLaws → (config : Config) → IsRight (empty_world config)

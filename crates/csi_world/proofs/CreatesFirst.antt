@@ -1,11 +1,9 @@
 -- Which names' ids were heard since they were forgotten last: before a call of another kind is sent for a name its id was heard, and after
 -- that no CreateVolume is sent for it. So each CreateVolume of a name comes before every other call of it.
-use Rattle.csi_world.proofs.Words.{◌≡◌, ◌⊎◌, ℕ, List, [], ◌∷◌, true, false, Some, None, filter_map, refl, sym, ◌∙◌, ap}
-use Rattle.csi_world.proofs.Words.{subst, inl, inr, Call, Party, Controller, Node, IsBefore, same_text, IsAmong, Issued}
-use Rattle.csi_world.proofs.Words.{Item, Sent, History, newest, lifetime, issued_in, issued_since, id_in, id_by, id_of}
-use Rattle.csi_world.proofs.Words.{IsGuarded, Exists}
+use Rattle.csi_world.proofs.Words.{◌≡◌, ◌⊎◌, ℕ, List, [], ◌∷◌, true, false, Some, None, refl, sym, ◌∙◌, ap, subst, inl}
+use Rattle.csi_world.proofs.Words.{inr, Call, Party, IsBefore, IsAmong, Issued, Item, Sent, History, newest, issued_in}
+use Rattle.csi_world.proofs.Words.{id_in, id_of, IsGuarded, Exists, arith}
 use Rattle.csi_world.proofs.Lemmas.{false≢true, none-some, same_text-tells, among-kept, in_filter, in-filter_map}
-use Rattle.csi_types.specs.declared.call.Call.TheVariants as calls
 use Rattle.csi_orchestrator.specs.Public.Guards.{HasId}
 use Rattle.csi_world.proofs.CallThings.{is_making}
 use Rattle.csi_world.proofs.Lifetimes.{calls_since, lifetime-is}
@@ -39,16 +37,7 @@ known-later items more name calls_too items_too known =
 
 -- the orchestrator's reading tells it
 pub heard-known : (history : History) (name : List ℕ) (id : ℕ) → id_of history name ≡ Some id → IsKnown history.items name
-heard-known history name id h =
-    let found = newest-found (λ (issued : Issued). id_by history.items issued issued.call) (issued_since history name) id h in
-    let kept = among-kept (λ (issued : Issued). same_text issued.name name) (issued_in (lifetime name history.items)) found.0 found.1 in
-    by found.0 (subst (λ (xs : List Item). IsAmong found.0 (issued_in xs)) (lifetime-is name history.items) kept.0) ((same_text-tells (found.0).name name).0 kept.1) (found.0).call refl found.2
-  where
-    by : (call : Issued) → IsAmong call (calls_since (Exists name) history.items) → call.name ≡ name → (c : Call) → call.call ≡ c → id_by history.items call c ≡ Some id → IsKnown history.items name
-    by call there named (calls.CreateVolume create required limit capabilities) is e =
-        let told = newest-found (id_in call.number) history.items id e in
-        record { call = call; item = told.0; id = id; among = there; of_name = named; makes = ap is_making is; told = told.1; has_id = told.2 }
-    by call there named c is e = absurd (none-some id e)
+heard-known history name id h = grind (arith, newest-found, among-kept, lifetime-is, same_text-tells, calls_since, is_making, none-some)
 
 -- a list that something is among has a newest
 newest-some : {X : Type 0} (xs : List X) (x : X) → IsAmong x xs → (y : X) × (newest xs ≡ Some y)
@@ -57,19 +46,7 @@ newest-some (y ∷ ys) x among = (y, refl)
 
 -- where it was heard, the reading tells an id
 pub known-heard : (history : History) (name : List ℕ) → IsKnown history.items name → id_of history name ≡ None → ⊥
-known-heard history name known none =
-    let call : Issued = known.call in
-    let told = newest-some (filter_map (id_in call.number) history.items) known.id (in-filter_map (id_in call.number) history.items known.item known.id known.told known.has_id) in
-    let by_call : id_by history.items call call.call ≡ Some told.0 = made call.call known.makes told.0 told.1 in
-    let there = subst (λ (xs : List Item). IsAmong call (issued_in xs)) (sym (lifetime-is name history.items)) known.among in
-    let of_name = in_filter (λ (issued : Issued). same_text issued.name name) (issued_in (lifetime name history.items)) call there ((same_text-tells call.name name).1 known.of_name) in
-    let read = newest-some (filter_map (λ (issued : Issued). id_by history.items issued issued.call) (issued_since history name)) told.0
-    (in-filter_map (λ (issued : Issued). id_by history.items issued issued.call) (issued_since history name) call told.0 of_name by_call) in
-    none-some read.0 (sym none ∙ read.1)
-  where
-    made : (c : Call) → is_making c ≡ true → (id : ℕ) → newest (filter_map (id_in known.call.number) history.items) ≡ Some id → id_by history.items known.call c ≡ Some id
-    made (calls.CreateVolume create required limit capabilities) making id e = e
-    made c making id e = absurd (false≢true making)
+known-heard history name known none = grind (arith, newest-some, in-filter_map, lifetime-is, in_filter, same_text-tells, none-some, is_making, false≢true)
 
 -- before a call that makes no volume the name's id was heard, and each call that makes one comes before it, where it was sent since the name
 -- was forgotten
@@ -80,21 +57,11 @@ pub record CreatesFirst (items : List Item) : Type 0 where
 
 -- a guarded call that makes no volume carries an id that was heard
 id-guarded : (history : History) (name : List ℕ) (party : Party) (call : Call) → IsGuarded history name party call → is_making call ≡ false → (id : ℕ) × HasId history name id
-id-guarded history name Controller (calls.CreateVolume create required limit capabilities) guard making = absurd (false≢true (sym making))
-id-guarded history name Controller (calls.DeleteVolume id) guard making = (id, guard.0)
-id-guarded history name Controller (calls.ControllerPublishVolume id node capability readonly) guard making = (id, guard.0)
-id-guarded history name Controller (calls.ControllerUnpublishVolume id node) guard making = (id, guard.0)
-id-guarded history name (Node node) (calls.NodeStageVolume id capability) guard making = (id, guard.0)
-id-guarded history name (Node node) (calls.NodeUnstageVolume id) guard making = (id, guard.0)
-id-guarded history name (Node node) (calls.NodePublishVolume id target capability readonly) guard making = (id, guard.0)
-id-guarded history name (Node node) (calls.NodeUnpublishVolume id target) guard making = (id, guard)
-id-guarded history name party call guard making = absurd guard
+id-guarded history name party call guard making = grind (arith, false≢true)
 
 -- a guarded call that makes a volume is for a name of which no id was heard
 pub making-guarded : (history : History) (name : List ℕ) (party : Party) (call : Call) → IsGuarded history name party call → is_making call ≡ true → id_of history name ≡ None
-making-guarded history name Controller (calls.CreateVolume create required limit capabilities) guard making = guard.no_id
-making-guarded history name (Node node) (calls.CreateVolume create required limit capabilities) guard making = absurd guard
-making-guarded history name party call guard making = absurd (false≢true making)
+making-guarded history name party call guard making = grind (arith, false≢true)
 
 -- a guarded call is sent
 pub first-sent : (history : History) (call : Issued) → CreatesFirst history.items → IsGuarded history call.name call.party call.call
@@ -131,21 +98,4 @@ LeavesNames items item = (name : List ℕ) → (calls_since (Exists name) (item 
 
 -- an item that sends nothing
 pub first-noted : (items : List Item) (item : Item) → issued_in (item ∷ items) ≡ issued_in items → LeavesNames items item → CreatesFirst items → CreatesFirst (item ∷ items)
-first-noted items item same leaves creates =
-    record {
-      known = λ call there not_making. known call there not_making (leaves call.name);
-      first = λ create other there too named making not_making. first create other there too named making not_making (leaves other.name);
-    }
-  where
-    Left : List ℕ → Type 0
-    Left name = (calls_since (Exists name) (item ∷ items) ≡ []) ⊎ (calls_since (Exists name) (item ∷ items) ≡ calls_since (Exists name) items)
-
-    known : (call : Issued) → IsAmong call (calls_since (Exists call.name) (item ∷ items)) → is_making call.call ≡ false → Left call.name → IsKnown (item ∷ items) call.name
-    known call there not_making (inl none) = absurd (subst (IsAmong call) none there)
-    known call there not_making (inr left) =
-        known-later items (item ∷ items) call.name (λ c among. subst (IsAmong c) (sym left) among) (λ i among. inr among) (creates.known call (subst (IsAmong call) left there) not_making)
-
-    first : (create other : Issued) → IsAmong create (issued_in (item ∷ items)) → IsAmong other (calls_since (Exists other.name) (item ∷ items)) → create.name ≡ other.name
-        → is_making create.call ≡ true → is_making other.call ≡ false → Left other.name → IsBefore create.number other.number
-    first create other there too named making not_making (inl none) = absurd (subst (IsAmong other) none too)
-    first create other there too named making not_making (inr left) = creates.first create other (subst (IsAmong create) same there) (subst (IsAmong other) left too) named making not_making
+first-noted items item same leaves creates = grind (arith, calls_since, is_making, known-later)

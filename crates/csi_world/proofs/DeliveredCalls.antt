@@ -1,11 +1,10 @@
 -- What becomes of the things when a sent call comes to its plugin, which carries it out, or doesn't, or doesn't have its volume; with what was
 -- forgotten told too. And what is given then.
-use Rattle.csi_world.proofs.Words.{◌≡◌, ◌⊎◌, ℕ, ◌<◌, List, [], ◌∷◌, ◌++◌, Bool, true, false, Option, Some, None}
-use Rattle.csi_world.proofs.Words.{option_map, IsTrue, refl, sym, ◌∙◌, ap, subst, inl, inr, ⊎_elim, arith, Number, Call}
-use Rattle.csi_world.proofs.Words.{Kind, Party, Reply, PluginView, Delivery, Acts, Rests, Misses, CallBecomes, kept_of}
-use Rattle.csi_world.proofs.Words.{Kept, Frame, PluginThing, Exists, Attached, Staged, Published, ThingForm, HasId}
-use Rattle.csi_world.proofs.Words.{asked, IsAmong, reply_frame, same_text, same_party, Volume, ControllerState, Issued}
-use Rattle.csi_world.proofs.Words.{issued_in, NodeAt, World, IsAttachedWhileLive}
+use Rattle.csi_world.proofs.Words.{◌≡◌, ◌⊎◌, ℕ, ◌<◌, List, true, false, Option, Some, None, option_map, IsTrue, refl}
+use Rattle.csi_world.proofs.Words.{sym, ◌∙◌, ap, subst, inl, inr, ⊎_elim, arith, Number, Call, Kind, Party, Reply}
+use Rattle.csi_world.proofs.Words.{Delivery, Acts, Rests, Misses, CallBecomes, kept_of, PluginThing, Exists, Attached}
+use Rattle.csi_world.proofs.Words.{Staged, Published, ThingForm, HasId, asked, IsAmong, reply_frame, same_text, Volume}
+use Rattle.csi_world.proofs.Words.{ControllerState, Issued, issued_in, NodeAt, World, IsAttachedWhileLive}
 use Rattle.csi_world.proofs.Lemmas.{and_parts, false≢true, or_cases, or_from, or_left, or_right, none-some, same_Some}
 use Rattle.csi_world.proofs.Lemmas.{among-last, same_text-tells, same_party-tells, same_plugin_thing-tells}
 use Rattle.csi_types.specs.declared.call.Call.TheVariants as calls
@@ -34,23 +33,7 @@ KeepsOr old new party delivery =
 -- so it is in the world
 kept-either : (old new : World) (call : Issued) (plugin_thing : PluginThing) (kind : Kind) (reply : Reply) → party_of plugin_thing ≡ call.party → ChangesOnly (party_of plugin_thing) old new
     → KeepsOr old new (party_of plugin_thing) (delivery_of call kind reply) → IsKeptStill (issued_in old.history.items) old.frames (view_of old) (view_of new) call plugin_thing kind reply
-kept-either old new call plugin_thing kind reply of_party only keeps other k is = by (same_party (party_of other) (party_of plugin_thing)) refl
-  where
-    now : (party : Party) → party ≡ party_of plugin_thing → (plugin_view new party).kept other ≡ Some k
-        → ((plugin_view new (party_of plugin_thing)).kept other ≡ (plugin_view old (party_of plugin_thing)).kept other) ⊎ ((plugin_view new (party_of plugin_thing)).kept other ≡ Some (kept_of (delivery_of call kind reply)))
-        ⊎ ((plugin_view new (party_of plugin_thing)).kept other ≡ None)
-        → ((plugin_view old party).kept other ≡ Some k) ⊎ (IsAmong (reply_frame k.number party k.kind k.reply) (old.frames ++ answer_to call kind reply ∷ []))
-    now party e is (inl kept) = inl (ap (λ p. (plugin_view old p).kept other) e ∙ sym kept ∙ ap (λ p. (plugin_view new p).kept other) (sym e) ∙ is)
-    now party e is (inr (inl kept)) =
-        let one : k ≡ kept_of (delivery_of call kind reply) = same_Some k (kept_of (delivery_of call kind reply)) (sym is ∙ ap (λ p. (plugin_view new p).kept other) e ∙ kept) in
-        let frame : reply_frame k.number party k.kind k.reply ≡ answer_to call kind reply
-        = ap (λ (x : Kept). reply_frame x.number party x.kind x.reply) one ∙ ap (λ p. reply_frame call.number p kind reply) (e ∙ of_party) in
-        inr (subst (λ (f : Frame). IsAmong f (old.frames ++ answer_to call kind reply ∷ [])) (sym frame) (among-last old.frames (answer_to call kind reply)))
-    now party e is (inr (inr none)) = absurd (none-some k (sym none ∙ ap (λ p. (plugin_view new p).kept other) (sym e) ∙ is))
-
-    by : (b : Bool) → same_party (party_of other) (party_of plugin_thing) ≡ b → ((view_of old).kept other ≡ Some k) ⊎ (IsAmong (reply_frame k.number (party_of other) k.kind k.reply) (old.frames ++ answer_to call kind reply ∷ []))
-    by true e = now (party_of other) ((same_party-tells (party_of other) (party_of plugin_thing)).0 e) is (keeps other)
-    by false e = inl (ap (λ (v : PluginView). v.kept other) (sym (only (party_of other) e)) ∙ is)
+kept-either old new call plugin_thing kind reply of_party only keeps other k is = grind (arith, party_of, plugin_view, delivery_of, answer_to, same_Some, among-last, none-some, view_of, same_party-tells)
 
 -- a sent call that came to its plugin, and what the plugins know then
 module _ (world : World) (controller : ControllerState) (nodes : List NodeAt) (call : Issued) where

@@ -46,14 +46,7 @@ all-closed laws world = closed-all (λ w. laws.controller.closed w.controller) l
 
 -- a name has the id of the volume that was made
 made-id : (controller : ControllerState) (given : List GivenId) (name : List ℕ) (id : ℕ) → AreOf controller given → controllers.held_in controller (Exists name) ≡ Some (HasId id) → HasNow given name id
-made-id controller given name id of h = by (controllers.live_named name controller) refl h
-  where
-    same : (n : ℕ) → Some (HasId n) ≡ Some (HasId id) → n ≡ id
-    same n e = cc
-
-    by : (o : Option Volume) → controllers.live_named name controller ≡ o → option_map (λ (v : Volume). HasId v.id) o ≡ Some (HasId id) → HasNow given name id
-    by None e h = absurd (none-some (HasId id) h)
-    by (Some volume) e h = subst (HasNow given name) (same volume.id h) (live-now controller given name volume of e)
+made-id controller given name id of h = grind (arith, HasNow, none-some, live-now)
 
 -- where CreateVolume was carried out and answered OK, the name has the id that the reply has
 made-now : (new : World) (given : List GivenId) (call : Issued) (plugin_thing : PluginThing) (reply : Reply) (id : ℕ) (create : List ℕ) (required limit : ℕ) (capabilities : List Capability) → plugin_thing_at call.name call.party call.call ≡ Some plugin_thing
@@ -294,11 +287,7 @@ got laws world number party (bodies.Call c) good among = by (nat_lt number.sessi
         (call-got laws world call.name call.number call.party call.call good (subst (λ (f : Frame). (good.well.so_far).floor ≤ f.number.session) of.is above) of.among))
         (λ low. absurd (omega (arith, low, above))) (good.well.so_far.truth.calls frame c among refl)
 got laws world number Controller (bodies.Reply kind reply) good among = good
-got laws world number (Node id) (bodies.Reply kind reply) good among = by (node_state id world) refl
-  where
-    by : (o : Option NodeState) → node_state id world ≡ o → IsGood (answered_by_node id world (record { number = number; party = Node id; body = bodies.Reply kind reply }) o)
-    by None e = good
-    by (Some state) e = subst IsGood (sym (with_node-same world id state good.reached e)) good
+got laws world number (Node id) (bodies.Reply kind reply) good among = grind (arith, with_node-same)
 
 -- what is kept of every world is so after a frame that was sent came
 pub frame-got : PluginLaws → (world : World) (frame : Frame) → IsGood world → IsAmong frame world.frames → IsGood (answered_by_plugin world frame)

@@ -1,9 +1,9 @@
 -- A call that is due for a node is due at one that is listed.
-use Rattle.csi_world.proofs.Words.{◌≡◌, ◌≢◌, ◌⊎◌, ℕ, List, [], ◌∷◌, find, Bool, true, false, cond, not, Option, Some}
-use Rattle.csi_world.proofs.Words.{None, ◌&&◌, refl, sym, ◌∙◌, ap, subst, inl, inr, option_and_then, Number, Controller}
-use Rattle.csi_world.proofs.Words.{Node, same_text, Arguments, Usage, Thing, Known, Yes, No, Maybe, Issued, touches}
-use Rattle.csi_world.proofs.Words.{is_doing, is_yes, is_no, Goal, Create, Use, Stop, Delete, Sent, History, with_items}
-use Rattle.csi_world.proofs.Words.{known, known_by, has_success, id_of, Due, call_for, targets_in_use, due_for}
+use Rattle.csi_world.proofs.Words.{◌≡◌, ◌≢◌, ◌⊎◌, ℕ, List, [], ◌∷◌, true, cond, Option, Some, None, ◌&&◌, refl, sym}
+use Rattle.csi_world.proofs.Words.{◌∙◌, ap, subst, inl, inr, option_and_then, Number, Controller, Node, same_text}
+use Rattle.csi_world.proofs.Words.{Arguments, Usage, Thing, Known, Yes, No, Maybe, Issued, touches, is_doing, is_yes}
+use Rattle.csi_world.proofs.Words.{is_no, Goal, Create, Use, Stop, Delete, Sent, History, with_items, known, id_of}
+use Rattle.csi_world.proofs.Words.{Due, call_for, targets_in_use, due_for, arith}
 use Rattle.csi_world.proofs.Lemmas.{and_from, false≢true, none-some, same_Some, same_text-tells}
 use Rattle.csi_types.specs.declared.call.Call.TheVariants as calls
 use Rattle.csi_types.specs.declared.call.Kind.TheVariants as kinds
@@ -14,17 +14,7 @@ use Rattle.csi_world.proofs.RowsShown.{HasRows, IsListed, published-listed, stag
 
 -- what a call does may be so once it was sent
 pub doing-known : (base : History) (issued : Issued) (thing : Thing) → touches thing issued ≡ true → is_doing issued.call ≡ true → known (with_items base (Sent issued ∷ [])) thing ≢ No
-doing-known base issued thing of doing gone =
-    by (has_success (Sent issued ∷ base.items) issued.number) (sym is ∙ gone)
-  where
-    is : known (with_items base (Sent issued ∷ [])) thing ≡ cond (not (has_success (Sent issued ∷ base.items) issued.number)) Maybe Yes
-    is =
-        ap (λ b. known_by (Sent issued ∷ base.items) thing (cond b (Some issued) (find (touches thing) (calls_for thing base.items)))) of
-        ∙ ap (λ b. cond (not (has_success (Sent issued ∷ base.items) issued.number)) Maybe (cond b Yes No)) (and_from (touches thing issued) (is_doing issued.call) of doing)
-
-    by : (b : Bool) → cond (not b) Maybe Yes ≡ No → ⊥
-    by true h = false≢true (ap is_no h)
-    by false h = false≢true (ap is_no h)
+doing-known base issued thing of doing gone = grind (arith, calls_for, and_from, false≢true)
 
 -- the call does something at the node, or undoes what may be so there
 pub record DoesStage (name node : List ℕ) (due : Due) : Type 0 where

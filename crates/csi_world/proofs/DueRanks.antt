@@ -83,19 +83,7 @@ rank_due (Some due) = rank_of (kind_of due.call)
 
 -- a call for a goal has the kind that is due
 call-rank : (name : List ℕ) (goal : Option Goal) (id : Option ℕ) (kind : Option Kind) → rank_due (option_and_then (call_for name goal id) kind) ≤ rank_if kind
-call-rank name goal id None = omega arith
-call-rank name goal id (Some kind) = at goal id kind
-  where
-    at : (goal : Option Goal) (id : Option ℕ) (kind : Kind) → rank_due (call_for name goal id kind) ≤ rank_of kind
-    at (Some (Create arguments)) id kinds.CreateVolume = omega arith
-    at (Some (Use usage)) (Some id) kinds.ControllerPublishVolume = omega arith
-    at (Some (Use usage)) (Some id) kinds.NodeStageVolume = omega arith
-    at (Some (Use usage)) (Some id) kinds.NodePublishVolume = omega arith
-    at (Some (Stop node target)) (Some id) kinds.NodeUnpublishVolume = omega arith
-    at (Some (Stop node target)) (Some id) kinds.NodeUnstageVolume = omega arith
-    at (Some (Stop node target)) (Some id) kinds.ControllerUnpublishVolume = omega arith
-    at (Some Delete) (Some id) kinds.DeleteVolume = omega arith
-    at goal id kind = omega arith
+call-rank name goal id kind = grind arith
 
 -- so a goal's rank is that of its kind
 pub goal-rank : (history : History) (name : List ℕ) (goal : Goal) (n : ℕ) → rank_if (due_kind history name goal) ≤ n → rank_due (due_for history name (Some goal)) ≤ n
@@ -113,15 +101,7 @@ delete-create arguments e = cc
 
 -- without an id no call is due for anything but a creation
 pub without-id : (name : List ℕ) (goal : Goal) (kind : Option Kind) (due : Due) → ((arguments : Arguments) → goal ≡ Create arguments → ⊥) → option_and_then (call_for name (Some goal) None) kind ≡ Some due → ⊥
-without-id name goal None due other e = none-some due e
-without-id name goal (Some kind) due other e = at goal kind other e
-  where
-    at : (goal : Goal) (kind : Kind) → ((arguments : Arguments) → goal ≡ Create arguments → ⊥) → call_for name (Some goal) None kind ≡ Some due → ⊥
-    at (Create arguments) kind other e = other arguments refl
-    at (Use usage) kinds.CreateVolume other e = none-some due e
-    at (Stop node target) kinds.CreateVolume other e = none-some due e
-    at Delete kinds.CreateVolume other e = none-some due e
-    at goal kind other e = none-some due e
+without-id name goal kind due other e = grind (arith, none-some)
 
 -- ---- a use
 
@@ -177,9 +157,7 @@ when-detached [] = omega arith
 
 -- at most three calls are left
 stop-few : (p : Known) (ts : List (List ℕ)) (s a : Known) → rank_if (stop_kind p ts s a) ≤ 3
-stop-few Yes ts s a = omega arith
-stop-few Maybe ts s a = omega arith
-stop-few No ts s a = let few = when-unpublished ts s a in omega (arith, few)
+stop-few p ts s a = grind (arith, when-unpublished)
 
 -- so it is of every stop
 pub stop-rank : (history : History) (name node target : List ℕ) → rank_due (due_for history name (Some (Stop node target))) ≤ 3

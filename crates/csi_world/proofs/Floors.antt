@@ -1,13 +1,12 @@
 -- A floor: a session that each plugin which is there has reached, and the orchestrator's last number. No call of an earlier session is carried out,
 -- whoever sent it.
-use Rattle.csi_world.proofs.Words.{ℕ, ◌<◌, ◌≤◌, List, map, not, Bool, true, false, cond, sym, ◌∙◌, subst, ⊎_elim, arith}
-use Rattle.csi_world.proofs.Words.{Number, Party, Body, kind_of, Config, same_text, IsAmong, Kept, Fenced, fenced_parts}
-use Rattle.csi_world.proofs.Words.{ControllerState, NodeState, volume_of, Item, last_number, NodeAt, World, with_state}
-use Rattle.csi_world.proofs.Words.{new_node, with_new_node, without_node, with_history}
+use Rattle.csi_world.proofs.Words.{ℕ, ◌<◌, ◌≤◌, List, map, not, sym, ◌∙◌, subst, ⊎_elim, arith, Number, Party, Body}
+use Rattle.csi_world.proofs.Words.{Config, same_text, IsAmong, Kept, Fenced, fenced_parts, ControllerState, NodeState}
+use Rattle.csi_world.proofs.Words.{volume_of, Item, last_number, NodeAt, World, with_state, new_node, with_new_node}
+use Rattle.csi_world.proofs.Words.{without_node, with_history}
 use Rattle.csi_world.proofs.Lemmas.{among-either, among-filter, among-map, Carried, no_room, has_room, was_carried}
 use Rattle.csi_world.proofs.Lemmas.{kept_of, keep-session, changed-session}
 use Rattle.csi_types.specs.declared.frame.Body.TheVariants as bodies
-use Rattle.csi_controller.specs.Model.Table as controller_table
 use Rattle.csi_controller.specs.Model.Fenced as controllers
 use Rattle.csi_node.specs.Model.Table as node_table
 use Rattle.csi_node.specs.Model.Fenced as nodes
@@ -26,15 +25,7 @@ pub record HasFloor (floor : ℕ) (world : World) : Type 0 where
 -- a controller that got a frame of such a session
 pub floor-controller : (config : Config) (floor : ℕ) (state : ControllerState) (number : Number) (party : Party) (body : Body) → floor ≤ number.session → floor ≤ state.session
     → floor ≤ (fenced_parts (controllers.controller_with config) state number party body).state.session
-floor-controller config floor state number party (bodies.Call call) above own =
-    call-so (controllers.controller_with config) (λ (s : ControllerState). floor ≤ s.session) number call (λ s h. above) carries state party own
-  where
-    carries : (s : ControllerState) → floor ≤ s.session → floor ≤ (controllers.carried_out s number call (controller_table.controller_row config s call)).state.session
-    carries s h =
-        let outcome : controller_table.Outcome = controller_table.controller_row config s call in
-        let kept : Kept = record { number = number; kind = kind_of call; reply = outcome.reply } in
-        subst (λ n. floor ≤ n) (sym (changed-sessions s kept outcome.change)) h
-floor-controller config floor state number party (bodies.Reply kind reply) above own = own
+floor-controller config floor state number party body above own = grind (arith, call-so, changed-sessions)
 
 -- so did a node
 pub floor-node : (node : List ℕ) (floor : ℕ) (state : NodeState) (number : Number) (party : Party) (body : Body) → floor ≤ number.session → floor ≤ state.session
@@ -55,13 +46,7 @@ floor-node node floor state number party (bodies.Reply kind reply) above own = o
 -- one node knows something else
 pub floor-with_state : (floor : ℕ) (id : List ℕ) (state : NodeState) (ns : List NodeAt) → floor ≤ state.session → ((at : NodeAt) → IsAmong at ns → floor ≤ at.state.session)
     → (at : NodeAt) → IsAmong at (map (with_state id state) ns) → floor ≤ at.state.session
-floor-with_state floor id state ns own each at among =
-    let from = among-map (with_state id state) ns at among in
-    subst (λ (n : NodeAt). floor ≤ n.state.session) (sym from.2) (one from.0 (each from.0 from.1) (same_text (from.0).id id))
-  where
-    one : (old : NodeAt) → floor ≤ old.state.session → (b : Bool) → floor ≤ (cond b (let n : NodeAt = record old { state = state } in n) old).state.session
-    one old so true = own
-    one old so false = so
+floor-with_state floor id state ns own each at among = grind (arith, among-map)
 
 -- the orchestrator goes on, in a session that is no earlier
 pub floor-noted : {floor : ℕ} (world : World) (items : List Item) → HasFloor floor world → (last_number world.history).session ≤ (last_number (with_history items world).history).session → HasFloor floor (with_history items world)

@@ -1,12 +1,10 @@
 -- A world by its things, where what a controller forgot is spent: no call of it will be carried out. No controller can know that of a name.
-use Rattle.csi_world.proofs.Words.{◌≡◌, ℕ, List, Bool, true, false, None, option_map, sym, ◌∙◌, ap, ⊎_elim, ◌==◌, ◌&&◌}
-use Rattle.csi_world.proofs.Words.{◌||◌, is_some, Holding, PluginView, IsClosed, PluginThing, Exists, Attached, Staged}
-use Rattle.csi_world.proofs.Words.{Published, HasId, AttachedAs, same_text, IsAmong, Volume, ControllerState}
-use Rattle.csi_world.proofs.Words.{live_volume, is_held_at, holding_at, volume_with_id, World, IsAttachedWhileLive}
-use Rattle.csi_world.proofs.Words.{Number, IsBefore, is_over}
+use Rattle.csi_world.proofs.Words.{◌≡◌, ℕ, List, Bool, true, false, None, sym, ◌∙◌, ap, ◌==◌, ◌&&◌, ◌||◌, is_some}
+use Rattle.csi_world.proofs.Words.{PluginView, IsClosed, PluginThing, Exists, Attached, same_text, IsAmong, Volume}
+use Rattle.csi_world.proofs.Words.{ControllerState, live_volume, is_held_at, holding_at, volume_with_id, World}
+use Rattle.csi_world.proofs.Words.{IsAttachedWhileLive, Number, IsBefore, is_over, arith}
 use Rattle.csi_world.proofs.Lemmas.{and_parts, and_left, eqb-true, false≢true, or_cases, or_left, or_right}
 use Rattle.csi_world.proofs.Lemmas.{same_text-tells, among-find, none_passes, none-where, find-none, find-passes}
-use Rattle.csi_controller.specs.Public.View as controllers
 use Rattle.csi_world.proofs.GivenIds.{GivenId, AreGiven, AreOf, now-given, gone-unnamed, is_given, is_forgotten}
 use Rattle.csi_world.proofs.Lifetimes.{over-before}
 use Rattle.csi_world.proofs.WorldView.{over_at, view_with, view_of}
@@ -40,13 +38,7 @@ closed-past over thing earlier later before past = past
 
 -- what came before a spent number is spent
 pub closed-told : (given : List GivenId) (world : World) → IsClosed (view_of world) → IsClosed (told_by given world)
-closed-told given world closed thing earlier later before spent =
-    ⊎_elim (λ mine. or_left ((view_of world).is_spent thing earlier) (is_told given world thing earlier) (closed thing earlier later before mine))
-    (λ told. or_right ((view_of world).is_spent thing earlier) (is_told given world thing earlier)
-    (⊎_elim (λ forgotten. or_left (is_forgotten given world.controller thing) (is_past_name (over_at world) thing earlier) forgotten)
-    (λ past. or_right (is_forgotten given world.controller thing) (is_past_name (over_at world) thing earlier) (closed-past (over_at world) thing earlier later before past))
-    (or_cases (is_forgotten given world.controller thing) (is_past_name (over_at world) thing later) told)))
-    (or_cases ((view_of world).is_spent thing later) (is_told given world thing later) spent)
+closed-told given world closed thing earlier later before spent = grind (arith, or_left, view_of, or_right, is_forgotten, over_at, closed-past, or_cases)
 
 -- ---- a volume that isn't there any more
 
@@ -66,23 +58,9 @@ gone-detached world id node live gone =
 
 -- where only live volumes are attached, no volume without a live one is
 pub ended-detached : (world : World) (id : ℕ) (node : List ℕ) → IsAttachedWhileLive world → live_volume id world.controller ≡ None → (view_of world).held (Attached id node) ≡ None
-ended-detached world id node live ended =
-    ap (option_map (λ (holding : Holding). AttachedAs holding.capability holding.readonly))
-    (none-where (holding_at id node world.controller) (λ holding is.
-    let passes = and_parts (holding.volume == id) (same_text holding.node node) (find-passes (is_held_at id node) world.controller.holdings holding is) in
-    let lives = live holding (among-find (is_held_at id node) world.controller.holdings holding is) in
-    false≢true (sym (ap is_some (ap (λ n. live_volume n world.controller) (eqb-true holding.volume id passes.0) ∙ ended)) ∙ lives)))
+ended-detached world id node live ended = grind (arith, none-where, and_parts, find-passes, among-find, false≢true, eqb-true)
 
 -- a thing whose volume isn't there isn't there
 pub gone-held : (world : World) (given : List GivenId) (thing : PluginThing) (one : GivenId) → AreGiven given → AreOf world.controller given → IsAttachedWhileLive world
     → IsAmong one given → is_given thing one ≡ true → volume_with_id one.id world.controller ≡ None → (view_of world).held thing ≡ None
-gone-held world given (Exists name) one are of live among passes gone =
-    let parts = and_parts (same_text one.name name) one.now passes in
-    let same : one.name ≡ name = (same_text-tells one.name name).0 parts.0 in
-    let unlive = gone-unnamed world.controller given one.name one.id are of (now-given given one among parts.1) gone in
-    ap (option_map (λ (volume : Volume). HasId volume.id)) (ap (λ n. controllers.live_named n world.controller) (sym same) ∙ unlive)
-gone-held world given (Attached id node) one are of live among same gone =
-    ap (option_map (λ (holding : Holding). AttachedAs holding.capability holding.readonly))
-    (ap (λ n. holding_at n node world.controller) (sym (eqb-true one.id id same)) ∙ gone-detached world one.id node live gone)
-gone-held world given (Staged id node) one are of live among none gone = absurd (false≢true none)
-gone-held world given (Published id node target) one are of live among none gone = absurd (false≢true none)
+gone-held world given thing one are of live among passes gone = grind (arith, and_parts, same_text-tells, gone-unnamed, now-given, eqb-true, gone-detached, false≢true)

@@ -1,14 +1,14 @@
 -- What a search by halving tells in a list that is in order: the place of a row by its id, and where something is noted of a thing.
-use Rattle.csi_world.proofs.Words.{◌≡◌, ◌≤◌, ◌<◌, ℕ, zero, suc, List, [], ◌∷◌, length, get_or, Bool, true, false}
-use Rattle.csi_world.proofs.Words.{Result, Ok, Err, nat_lt, refl, sym, ◌∙◌, ap, inl, inr, arith, position, ◌==◌, ◌+◌}
-use Rattle.csi_world.proofs.Words.{subst, IsAmong, EachTwo, AtMostOne, ControllerRow, list_any, Thing, Known}
-use Rattle.csi_world.proofs.Words.{thing_order, IsInOrder, same_thing, is_entry_of}
+use Rattle.csi_world.proofs.Words.{◌≡◌, ◌≤◌, ◌<◌, ℕ, zero, suc, List, [], ◌∷◌, length, get_or, true, false, Result, Ok}
+use Rattle.csi_world.proofs.Words.{Err, refl, sym, ◌∙◌, ap, inl, inr, arith, position, ◌==◌, subst, IsAmong, EachTwo}
+use Rattle.csi_world.proofs.Words.{AtMostOne, ControllerRow, list_any, Thing, Known, thing_order, IsInOrder}
+use Rattle.csi_world.proofs.Words.{same_thing, is_entry_of}
 use Rattle.csi_world.proofs.Lemmas.{nat_tests, eq-eqb, false_from_ne_true, each-at, each-place, FirstAt-only, at-index}
 use Rattle.csi_world.proofs.Lemmas.{position-first, position-none, rising-one, each_of, find-none, any-then, then-any}
 use Rattle.csi_world.proofs.Lemmas.{none-among}
 use Rattle.std.specs.Result.{is_ok, result_ok}
 use Rattle.std.specs.List.Sorted.{IsSearchInRange, IsBinarySearchResult, IsNonDecreasingBy, IsSortedBy}
-use Rattle.std.specs.Ordering.{ordering_index, nat_cmp, is_lt, ordering_reverse}
+use Rattle.std.specs.Ordering.{ordering_index, nat_cmp, is_lt}
 use Rattle.std.specs.declared.cmp.Ordering.{Ordering}
 use Rattle.std.specs.declared.cmp.Ordering.TheVariants.{Less, Equal, Greater}
 use Rattle.std.proofs.lemmas.Cmp.{ranked, tied_itself}
@@ -51,22 +51,12 @@ found-ties ord xs (Err i) within parted is = absurd (false_is_not is)
 
 -- of two numbers the one is less, or else no less
 between : (k i : ℕ) → (k < i → ⊥) → (i ≤ k → ⊥) → ⊥
-between k i below above = by (nat_lt k i) refl
-  where
-    by : (b : Bool) → nat_lt k i ≡ b → ⊥
-    by true e = below (grind (arith, nat_tests))
-    by false e = above (grind (arith, nat_tests))
+between k i below above = grind (arith, nat_tests)
 
 -- where one of the list ties, one is found
 pub ties-found : {X : Type 0} (ord : X → Ordering) (xs : List X) (r : Result ℕ ℕ) → IsNonDecreasingBy (λ x. ordering_index (ord x)) xs → IsSearchInRange r (length xs) → IsBinarySearchResult ord xs r
     → (x : X) → IsAmong x xs → ord x ≡ Equal → is_ok r ≡ true
-ties-found ord xs (Ok i) rising within equal x among ties = refl
-ties-found ord xs (Err i) rising within parted x among ties =
-    let found = place-of xs x among in
-    let k : ℕ = found.0 in
-    let halves = parted rising in
-    let own : ord (get_or xs k x) ≡ Equal = ap ord found.2 ∙ ties in
-    absurd (between k i (λ lt. less_is_not (sym (halves.0 k x (omega arith) lt) ∙ own)) (λ le. greater_is_not (sym (halves.1 k x le found.1) ∙ own)))
+ties-found ord xs r rising within equal x among ties = grind (arith, place-of, between, less_is_not, greater_is_not)
 
 -- ---- a row, by its id
 
@@ -138,11 +128,7 @@ two-at R (x ∷ xs) (suc i) (suc j) d two before inside = two-at R xs i j d two.
 
 -- what is noted in order is sorted by the order of things
 in-order-sorted : (noted : List (Thing × Known)) → IsInOrder noted → IsSortedBy (λ a b. is_lt (thing_order a.0 b.0)) noted
-in-order-sorted noted two k d from inside =
-    let first : Thing × Known = get_or noted k d in
-    let second : Thing × Known = get_or noted (k + 1) d in
-    let rises : thing_order first.0 second.0 ≡ Less = two-at (λ (a b : Thing × Known). thing_order a.0 b.0 ≡ Less) noted k (k + 1) d two (omega arith) inside in
-    ap is_lt (order-total.antisymm second.0 first.0 ∙ ap ordering_reverse rises)
+in-order-sorted noted two k d from inside = grind (arith, rises, two-at, order-total)
 
 -- a thing that comes before another isn't it
 before-other : (a b : Thing) → thing_order a b ≡ Less → same_thing a b ≡ false

@@ -1,11 +1,11 @@
 -- A call with a new number is carried out by its plugin, which answers it by its table.
 use Rattle.csi_world.proofs.Words.{◌≡◌, ℕ, ◌≤◌, List, [], ◌∷◌, ◌++◌, Bool, true, false, cond, Option, Some, None}
-use Rattle.csi_world.proofs.Words.{option_map, is_some, refl, sym, ◌∙◌, ap, subst, ◌==◌, arith, Number, Call, Party}
-use Rattle.csi_world.proofs.Words.{Controller, Node, Reply, kind_of, Config, Frame, IsBefore, call_frame, reply_frame}
-use Rattle.csi_world.proofs.Words.{same_text, IsAmong, last_of, is_over, begins, Fenced, in_session, Volume}
-use Rattle.csi_world.proofs.Words.{ControllerState, is_row_for, row_for, NodeState, AnsweredVolume, staged_of}
-use Rattle.csi_world.proofs.Words.{volume_of, row_with_id, row_of_volume, Issued, frame_of, World, node_state}
-use Rattle.csi_world.proofs.Words.{with_node, with_frame, answered_by_node, answered_by_plugin, called, called_at}
+use Rattle.csi_world.proofs.Words.{option_map, refl, sym, ◌∙◌, ap, subst, ◌==◌, arith, Number, Call, Party, Controller}
+use Rattle.csi_world.proofs.Words.{Node, Reply, kind_of, Config, Frame, IsBefore, call_frame, reply_frame, same_text}
+use Rattle.csi_world.proofs.Words.{IsAmong, last_of, is_over, Fenced, in_session, Volume, ControllerState, is_row_for}
+use Rattle.csi_world.proofs.Words.{row_for, NodeState, AnsweredVolume, volume_of, row_with_id, row_of_volume, Issued}
+use Rattle.csi_world.proofs.Words.{frame_of, World, node_state, with_node, with_frame, answered_by_node}
+use Rattle.csi_world.proofs.Words.{answered_by_plugin, called, called_at}
 use Rattle.csi_world.proofs.Lemmas.{nat_tests, same_text-tells, among-find, among-filter}
 use Rattle.csi_fence.specs.Public.Fence.{IsFresh}
 use Rattle.csi_fence.specs.Public.Lawful.{IsLetThrough}
@@ -33,18 +33,10 @@ controller_now config number state = in_session (controllers.controller_with con
 
 -- it has no other volumes, and the same holdings
 controller-now-volumes : (config : Config) (number : Number) (state : ControllerState) (volume : Volume) → IsAmong volume (controller_now config number state).volumes → IsAmong volume state.volumes
-controller-now-volumes config number state volume = by (begins state.session number)
-  where
-    by : (b : Bool) → IsAmong volume (cond b (controllers.begun number.session state) state).volumes → IsAmong volume state.volumes
-    by true among = among-filter (λ (v : Volume). v.is_live) state.volumes volume among
-    by false among = among
+controller-now-volumes config number state volume = grind (arith, among-filter)
 
 pub controller-now-holdings : (config : Config) (number : Number) (state : ControllerState) → (controller_now config number state).holdings ≡ state.holdings
-controller-now-holdings config number state = by (begins state.session number)
-  where
-    by : (b : Bool) → (cond b (controllers.begun number.session state) state).holdings ≡ state.holdings
-    by true = refl
-    by false = refl
+controller-now-holdings config number state = grind arith
 
 -- the call is let through
 controller-lets : (config : Config) (last number : Number) (state : ControllerState) (call : Call) → ControllerHeard last state → IsBefore last number → IsLetThrough (controllers.controller_with config) state number call
@@ -77,18 +69,10 @@ node_now node number state = in_session (nodes.node_at node) number state
 
 -- it has no other rows, and the same is staged and published
 pub node-now-rows : (node : List ℕ) (number : Number) (state : NodeState) (row : AnsweredVolume) → IsAmong row (node_now node number state).rows → IsAmong row state.rows
-node-now-rows node number state row = by (begins state.session number)
-  where
-    by : (b : Bool) → IsAmong row (cond b (nodes.begun number.session state) state).rows → IsAmong row state.rows
-    by true among = among-filter (λ (r : AnsweredVolume). is_some (staged_of r.id state)) state.rows row among
-    by false among = among
+node-now-rows node number state row = grind (arith, among-filter)
 
 pub node-now-published : (node : List ℕ) (number : Number) (state : NodeState) → (node_now node number state).published ≡ state.published
-node-now-published node number state = by (begins state.session number)
-  where
-    by : (b : Bool) → (cond b (nodes.begun number.session state) state).published ≡ state.published
-    by true = refl
-    by false = refl
+node-now-published node number state = grind arith
 
 -- the call is let through
 node-lets : (node : List ℕ) (last number : Number) (state : NodeState) (call : Call) → NodeHeard last state → IsBefore last number → IsLetThrough (nodes.node_at node) state number call

@@ -114,14 +114,7 @@ gone-unnamed controller given name id are of has gone = by (controllers.live_nam
 -- where no volume of a name is live, the name's id has no live volume
 pub unlive-ended : (controller : ControllerState) (given : List GivenId) (name : List ℕ) (id : ℕ) → AreGiven given → AreOf controller given → HasNow given name id
     → controllers.live_named name controller ≡ None → live_volume id controller ≡ None
-unlive-ended controller given name id are of has none = none-where (live_volume id controller) found
-  where
-    found : (volume : Volume) → live_volume id controller ≡ Some volume → ⊥
-    found volume is =
-        let there = of.names.live_id id volume is in
-        let named : volume.name ≡ name = id-named controller given name id volume are of (inl has) there in
-        let live = (and_parts (volume.id == id) volume.is_live (find-passes (λ (v : Volume). (v.id == id) && v.is_live) controller.volumes volume is)).1 in
-        none-some volume (sym none ∙ ap (λ n. controllers.live_named n controller) (sym named) ∙ live-named controller volume (of.names.by_name id volume there) live)
+unlive-ended controller given name id are of has none = grind (arith, none-where, id-named, and_parts, find-passes, none-some, live-named)
 
 -- ---- what was forgotten
 
@@ -146,11 +139,7 @@ gone-is controller one e = ap (λ (o : Option Volume). not (is_some o)) e
 
 -- where the test says that a given id is gone, no volume has it
 is-gone : (controller : ControllerState) (one : GivenId) → is_gone controller one ≡ true → volume_with_id one.id controller ≡ None
-is-gone controller one h = by (volume_with_id one.id controller) refl h
-  where
-    by : (o : Option Volume) → volume_with_id one.id controller ≡ o → not (is_some o) ≡ true → o ≡ None
-    by None e h = refl
-    by (Some volume) e h = absurd (false≢true h)
+is-gone controller one h = grind (arith, false≢true)
 
 -- where the volume of a given id of the thing isn't there, the thing was forgotten
 pub gone-forgotten : (given : List GivenId) (controller : ControllerState) (thing : PluginThing) (one : GivenId) → IsAmong one given → is_given thing one ≡ true → volume_with_id one.id controller ≡ None

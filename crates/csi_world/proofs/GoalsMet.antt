@@ -1,13 +1,12 @@
 -- Where no call is due what was wanted is so, and a volume keeps its id; and a use that is wanted isn't so yet.
-use Rattle.csi_world.proofs.Words.{◌≡◌, ◌≢◌, ℕ, List, [], ◌∷◌, filter, filter_map, find, Bool, true, false, cond, not}
-use Rattle.csi_world.proofs.Words.{Option, Some, None, option_map, ◌&&◌, refl, sym, ◌∙◌, ap, subst, option_and_then}
-use Rattle.csi_world.proofs.Words.{option_or, Status, is_ok_status, same_text, Arguments, Usage, Thing, Known, Yes, No}
-use Rattle.csi_world.proofs.Words.{Maybe, Issued, touches, is_yes, is_no, thing_of, Goal, Create, Use, Stop, Delete}
-use Rattle.csi_world.proofs.Words.{Accepted, Closed, Noted, History, with_items, known, id_of, goal_of, open_call}
-use Rattle.csi_world.proofs.Words.{issued_of, distinct, call_for, targets_in_use, published_target, due_for}
-use Rattle.csi_world.proofs.Words.{NodeEntryShown, RowShown, row_of, mark_in, mark_of, publication_known, goal_in}
-use Rattle.csi_world.proofs.Words.{goal_shown, IsWellFormed, IsStandingIf, IsSteadyRowIf, HasMarks, IsAtWork, IsAtRest}
-use Rattle.csi_world.proofs.Words.{AreMarked, IsStopped}
+use Rattle.csi_world.proofs.Words.{◌≡◌, ◌≢◌, ℕ, List, [], ◌∷◌, Bool, true, false, cond, Option, Some, None, option_map}
+use Rattle.csi_world.proofs.Words.{◌&&◌, refl, sym, ◌∙◌, ap, subst, option_and_then, option_or, Status, is_ok_status}
+use Rattle.csi_world.proofs.Words.{same_text, Arguments, Usage, Thing, Known, Yes, No, Issued, is_yes, is_no, Goal}
+use Rattle.csi_world.proofs.Words.{Create, Use, Stop, Delete, Accepted, Closed, Noted, History, with_items, known}
+use Rattle.csi_world.proofs.Words.{id_of, goal_of, open_call, call_for, targets_in_use, due_for, NodeEntryShown}
+use Rattle.csi_world.proofs.Words.{RowShown, row_of, mark_in, mark_of, publication_known, goal_in, goal_shown}
+use Rattle.csi_world.proofs.Words.{IsWellFormed, IsStandingIf, IsSteadyRowIf, HasMarks, IsAtWork, IsAtRest, AreMarked}
+use Rattle.csi_world.proofs.Words.{IsStopped, arith}
 use Rattle.csi_world.proofs.Lemmas.{none-some, same_Some, some_is_not_none, one-found, closed-follows, noted-follows}
 use Rattle.csi_world.proofs.Lemmas.{each_of, among-find}
 use Rattle.csi_types.specs.declared.call.Kind.TheVariants as kinds
@@ -103,24 +102,7 @@ module _ (history : History) (name : List ℕ) where
 
 -- it is so still once the goal is dropped
 pub noted-met : (history : History) (name other : List ℕ) (goal : Goal) (noted : Option Goal) → IsMet history name goal → IsMet (with_items history (Noted other noted ∷ [])) name goal
-noted-met history name other goal noted met = by goal met
-  where
-    same : (thing : Thing) → known (with_items history (Noted other noted ∷ [])) thing ≡ known history thing
-    same thing = known-aside history.items (Noted other noted) thing (find (touches thing) (calls_for thing history.items)) (λ n. refl)
-
-    targets : (node : List ℕ) → targets_in_use (with_items history (Noted other noted ∷ [])) name node ≡ targets_in_use history name node
-    targets node = λ i. filter (λ target. not (is_no (same (Published name node target) i))) (distinct (filter_map (λ issued. published_target node (thing_of issued)) (issued_of history name)))
-
-    by : (goal : Goal) → IsMet history name goal → IsMet (with_items history (Noted other noted ∷ [])) name goal
-    by (Create arguments) met = same (Exists name) ∙ met
-    by (Use usage) met = same (Published name usage.node usage.target) ∙ met
-    by (Stop node target) met =
-        record {
-          unpublished = same (Published name node target) ∙ met.unpublished;
-          unstaged = λ none. same (Staged name node) ∙ met.unstaged (sym (targets node) ∙ none);
-          detached = λ none. same (Attached name node) ∙ met.detached (sym (targets node) ∙ none);
-        }
-    by Delete met = same (Exists name) ∙ met
+noted-met history name other goal noted met = grind (arith, known-aside, calls_for)
 
 -- ---- ids
 
@@ -173,9 +155,7 @@ use-is one usage e = cc
 
 -- where a goal is at work, it isn't published
 at-work : (a s : Known) → IsAtWork a s Yes → ⊥
-at-work Maybe No h = h
-at-work Yes No h = h
-at-work a s h = h
+at-work a s h = grind arith
 
 -- a use that is wanted isn't known to be so
 pub use-unmet : (history : History) → HasRows history → (name : List ℕ) (usage : Usage) → goal_of history name ≡ Some (Use usage) → known history (Published name usage.node usage.target) ≡ Yes → ⊥

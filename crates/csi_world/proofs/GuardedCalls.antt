@@ -1,17 +1,17 @@
 -- Why a call that keeps the guards leaves what stands: it is for its own volume, it is of no attachment below which
 -- something stands, and it stages only what is attached so.
 use Rattle.csi_world.proofs.Words.{◌≡◌, ℕ, List, [], ◌∷◌, Bool, true, false, cond, Option, Some, None, find, filter}
-use Rattle.csi_world.proofs.Words.{filter_map, ◌==◌, ◌&&◌, refl, sym, ◌∙◌, ap, subst, inl, inr, Capability, Call, Party}
-use Rattle.csi_world.proofs.Words.{Controller, Node, PluginView, Frame, PluginThing, Attached, AttachedAs, asked}
-use Rattle.csi_world.proofs.Words.{same_text, Thing, Yes, No, Issued, touches, is_thing, thing_at, is_doing, Held}
-use Rattle.csi_world.proofs.Words.{History, newest, issued_in, known, held_by_call, held, IsGuarded}
-use Rattle.csi_world.proofs.Lemmas.{and_parts, and_from, eqb-true, false≢true, false_from_ne_true, none-some, same_Some}
-use Rattle.csi_world.proofs.Lemmas.{same_text-tells}
+use Rattle.csi_world.proofs.Words.{filter_map, ◌==◌, ◌&&◌, refl, sym, ◌∙◌, ap, subst, inl, inr, Capability, Call}
+use Rattle.csi_world.proofs.Words.{Party, Controller, Node, PluginView, Frame, PluginThing, Attached, AttachedAs}
+use Rattle.csi_world.proofs.Words.{asked, same_text, Thing, Yes, No, Issued, touches, is_thing, thing_at, is_doing}
+use Rattle.csi_world.proofs.Words.{Held, History, newest, issued_in, known, held_by_call, held, IsGuarded, arith}
+use Rattle.csi_world.proofs.Lemmas.{and_parts, and_from, eqb-true, false≢true, false_from_ne_true, none-some}
+use Rattle.csi_world.proofs.Lemmas.{same_Some, same_text-tells}
 use Rattle.csi_types.specs.declared.call.Call.TheVariants as calls
 use Rattle.csi_orchestrator.specs.declared.thing.Thing.TheVariants as things
 use Rattle.csi_orchestrator.specs.Public.Guards.{HasId}
 use Rattle.csi_world.proofs.GivenIds.{GivenId, HasNow, HasOld, HasName}
-use Rattle.csi_world.proofs.CallThings.{IsOwnNow, IsThingBy, Existence, Attachment, Staging, Publication, plugin_thing_at, is_plugin_thing, is_of}
+use Rattle.csi_world.proofs.CallThings.{IsOwnNow, IsThingBy, plugin_thing_at, is_plugin_thing, is_of}
 use Rattle.csi_world.proofs.Lifetimes.{latest, calls-attached}
 use Rattle.csi_world.proofs.HeardReplies.{id-given}
 use Rattle.csi_world.proofs.KnownThings.{IsSoFar, IsDone, latest-told, none-stands, attached-known, yes-done}
@@ -38,15 +38,7 @@ turned a b h = (same_text-tells b a).1 (sym ((same_text-tells a b).0 h))
 
 -- a call of the name that isn't of this attachment tells nothing of how it is held
 held-none : (name node : List ℕ) (x : Issued) → touches (things.Attached name node) x ≡ false → same_text x.name name ≡ true → held_by_call node x.call ≡ None
-held-none name node x other named = by x.party x.call other
-  where
-    by : (party : Party) (c : Call) → is_thing (things.Attached name node) (thing_at x.name party c) ≡ false → held_by_call node c ≡ None
-    by party (calls.ControllerPublishVolume i there capability readonly) other = at (same_text there node) refl
-      where
-        at : (b : Bool) → same_text there node ≡ b → cond b (Some (let h : Held = record { capability = capability; readonly = readonly } in h)) None ≡ None
-        at false e = refl
-        at true e = absurd (false≢true (sym other ∙ and_from (same_text name x.name) (same_text node there) (turned x.name name named) (turned there node e)))
-    by party c other = refl
+held-none name node x other named = grind (arith, false≢true, and_from, turned)
 
 -- how the calls of a name hold the volume at a node, by the newest of them that tells it
 abbrev pub held_among : List ℕ → List ℕ → List Issued → Option Held
@@ -84,22 +76,7 @@ held-latest name node id call here (x ∷ xs) publishes found = by (touches (thi
 -- the thing of an attachment
 attached-thing : {has : List ℕ → ℕ → Type 0} (thing : Thing) (plugin_thing : PluginThing) (name node : List ℕ) → thing ≡ things.Attached name node → IsThingBy has thing plugin_thing
     → (id : ℕ) × (plugin_thing ≡ Attached id node) × has name id
-attached-thing _ _ name node e (Existence other) = absurd (clash e)
-  where
-    clash : things.Exists other ≡ things.Attached name node → ⊥
-    clash e = cc
-attached-thing {has = has} _ _ name node e (Attachment other there id its) = (id, ap (Attached id) (parts e).1, subst (λ n. has n id) (parts e).0 its)
-  where
-    parts : things.Attached other there ≡ things.Attached name node → (other ≡ name) × (there ≡ node)
-    parts e = (cc, cc)
-attached-thing _ _ name node e (Staging other there id its) = absurd (clash e)
-  where
-    clash : things.Staged other there ≡ things.Attached name node → ⊥
-    clash e = cc
-attached-thing _ _ name node e (Publication other there target id its) = absurd (clash e)
-  where
-    clash : things.Published other there target ≡ things.Attached name node → ⊥
-    clash e = cc
+attached-thing thing plugin_thing name node e h = grind arith
 
 -- what is so of a history and of what came of it, where no volume is attached that was deleted before its name was forgotten
 module _ (history : History) (frames : List Frame) (view : PluginView) (given : List GivenId) (so : IsSoFar history frames view given)

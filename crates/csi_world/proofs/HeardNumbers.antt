@@ -1,12 +1,12 @@
 -- No plugin has heard of a session or of a number above the orchestrator's last one.
 use Rattle.csi_world.proofs.Words.{◌≡◌, ◌⊎◌, ℕ, ◌≤◌, ◌<◌, List, [], ◌∷◌, map, not, Bool, true, false, cond, Option}
-use Rattle.csi_world.proofs.Words.{Some, None, refl, sym, ◌∙◌, ap, subst, inl, inr, ⊎_elim, ◌==◌, arith, Number, Call}
-use Rattle.csi_world.proofs.Words.{Party, Controller, Node, Body, kind_of, Config, Frame, IsBefore, same_text, IsAmong}
-use Rattle.csi_world.proofs.Words.{Kept, Fenced, fenced_parts, Volume, ControllerState, is_row_for, ended_volume}
-use Rattle.csi_world.proofs.Words.{NodeState, AnsweredVolume, volume_of, last_number, NodeAt, World, empty_world}
-use Rattle.csi_world.proofs.Words.{node_id, new_node, node_state, with_state, with_node, with_frame, answered_by}
-use Rattle.csi_world.proofs.Words.{answered_by_node, answered_by_plugin, Choice, Sends, Starts, Answers, Joins, Loses}
-use Rattle.csi_world.proofs.Words.{MayChoose, MayChooseAll, chosen, chosen_all}
+use Rattle.csi_world.proofs.Words.{Some, None, refl, sym, ◌∙◌, ap, subst, inl, inr, ⊎_elim, arith, Number, Call, Party}
+use Rattle.csi_world.proofs.Words.{Controller, Node, Body, kind_of, Config, Frame, IsBefore, same_text, IsAmong, Kept}
+use Rattle.csi_world.proofs.Words.{Fenced, fenced_parts, Volume, ControllerState, ended_volume, NodeState}
+use Rattle.csi_world.proofs.Words.{AnsweredVolume, volume_of, last_number, NodeAt, World, empty_world, new_node}
+use Rattle.csi_world.proofs.Words.{node_state, with_state, with_node, with_frame, answered_by, answered_by_node}
+use Rattle.csi_world.proofs.Words.{answered_by_plugin, Choice, Sends, Starts, Answers, Joins, Loses, MayChoose}
+use Rattle.csi_world.proofs.Words.{MayChooseAll, chosen, chosen_all}
 use Rattle.csi_world.proofs.Lemmas.{nat_tests, among-either, among-filter, among-map, Carried, no_room, has_room}
 use Rattle.csi_world.proofs.Lemmas.{was_carried, kept_of, keep-each, keep-session, changed-session, changed-rows}
 use Rattle.csi_types.specs.declared.frame.Body.TheVariants as bodies
@@ -28,9 +28,7 @@ IsUpTo last number = (number ≡ last) ⊎ IsBefore number last
 
 -- so it is still once the last one is later
 pub up-later : (last later number : Number) → IsUpTo later last → IsUpTo last number → IsUpTo later number
-up-later last later number grows (inl e) = subst (IsUpTo later) (sym e) grows
-up-later last later number (inl e) (inr before) = inr (subst (IsBefore number) e before)
-up-later last later number (inr grows) (inr before) = inr (then-before number last later before grows)
+up-later last later number grows h = grind (arith, then-before)
 
 -- its session is no later
 pub up-session : (last number : Number) → IsUpTo last number → number.session ≤ last.session
@@ -51,11 +49,7 @@ pub record ControllerHeard (last : Number) (state : ControllerState) : Type 0 wh
 
 -- a volume that ends keeps what it kept
 ended-kept : (id : ℕ) (volume : Volume) → (ended_volume id volume).kept ≡ volume.kept
-ended-kept id volume = by (volume.id == id)
-  where
-    by : (b : Bool) → (cond b (let v : Volume = record volume { is_live = false } in v) volume).kept ≡ volume.kept
-    by true = refl
-    by false = refl
+ended-kept id volume = grind arith
 
 -- what is kept after a change
 changed-kept : (last : Number) (state : ControllerState) (kept : Kept) (change : controller_table.Change) → IsUpTo last kept.number → ControllerHeard last state
@@ -69,11 +63,7 @@ changed-kept last state kept change new heard volume among = heard.kept volume a
 
 -- what a row keeps once a call is kept
 kept-then : (last : Number) (call : Call) (kept : Kept) (volume : Volume) → IsUpTo last kept.number → IsUpTo last volume.kept.number → IsUpTo last (controllers.kept_in call kept volume).kept.number
-kept-then last call kept volume new old = by (is_row_for call volume)
-  where
-    by : (b : Bool) → IsUpTo last (cond b (let v : Volume = record volume { kept = kept } in v) volume).kept.number
-    by true = new
-    by false = old
+kept-then last call kept volume new old = grind arith
 
 -- a call of such a number that is carried out
 controller-carries : (config : Config) (last number : Number) → IsUpTo last number → (state : ControllerState) (call : Call) → ControllerHeard last state
@@ -130,14 +120,7 @@ HasHeard world = HaveHeard (last_number world.history) world.controller world.no
 
 -- so it is still where the last number is later
 pub heard-later : (last later : Number) (controller : ControllerState) (ns : List NodeAt) → IsUpTo later last → HaveHeard last controller ns → HaveHeard later controller ns
-heard-later last later controller ns grows heard =
-    record {
-      controller = record { session = up (heard.controller).session; kept = λ volume among. up-later last later volume.kept.number grows ((heard.controller).kept volume among) };
-      nodes = λ node among. record { session = up (heard.nodes node among).session; kept = λ row here. up-later last later row.kept.number grows ((heard.nodes node among).kept row here) };
-    }
-  where
-    up : {s : ℕ} → s ≤ last.session → s ≤ later.session
-    up {s} h = let k = up-session later last grows in omega (arith, h, k)
+heard-later last later controller ns grows heard = grind (arith, up-later, up-session)
 
 -- a controller got a frame that was sent
 controller-gets : (config : Config) (last : Number) (state : ControllerState) (number : Number) (party : Party) (body : Body) → ((call : Call) → body ≡ bodies.Call call → IsUpTo last number) → ControllerHeard last state
@@ -233,9 +216,4 @@ all-heard laws world (choice ∷ choices) right may heard =
 
 -- in the empty world no plugin heard of anything
 pub empty-heard : (config : Config) → HasHeard (empty_world config)
-empty-heard config =
-    record {
-      controller = record { session = omega arith; kept = λ volume among. absurd among };
-      nodes = λ at among.
-          subst (NodeHeard (last_number (empty_world config).history)) (sym (knows-nothing (map node_id config.nodes) at among)) (record { session = omega arith; kept = λ row here. absurd here });
-    }
+empty-heard config = grind (arith, knows-nothing)

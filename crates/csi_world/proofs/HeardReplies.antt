@@ -1,11 +1,10 @@
 -- What the orchestrator's history tells of the replies that were sent.
-use Rattle.csi_world.proofs.Words.{◌≡◌, ◌⊎◌, ℕ, List, [], ◌∷◌, ◌++◌, Bool, true, false, cond, not, zero, suc, slice_get}
+use Rattle.csi_world.proofs.Words.{◌≡◌, ◌⊎◌, ℕ, List, [], ◌∷◌, ◌++◌, Bool, true, false, cond, zero, suc, slice_get}
 use Rattle.csi_world.proofs.Words.{Option, Some, None, find, filter_map, ◌&&◌, refl, sym, ◌∙◌, ap, subst, inl, inr}
 use Rattle.csi_world.proofs.Words.{Number, Call, Capability, Reply, Status, kind_of, Frame, IsAmong, EachTwo}
-use Rattle.csi_world.proofs.Words.{is_ok_status, reply_frame, same_text, same_number, Thing, Yes, No, Maybe, Issued}
-use Rattle.csi_world.proofs.Words.{touches, is_doing, is_yes, is_no, Item, Accepted, History, newest, lifetime}
-use Rattle.csi_world.proofs.Words.{issued_in, issued_since, is_success_of, has_success, known_by, known, id_in, id_by}
-use Rattle.csi_world.proofs.Words.{id_of, Exists}
+use Rattle.csi_world.proofs.Words.{is_ok_status, reply_frame, same_text, same_number, Thing, Yes, No, Issued, touches}
+use Rattle.csi_world.proofs.Words.{is_doing, Item, Accepted, History, newest, lifetime, issued_in, issued_since}
+use Rattle.csi_world.proofs.Words.{is_success_of, has_success, known_by, known, id_in, id_by, id_of, Exists, arith}
 use Rattle.csi_world.proofs.Lemmas.{and_parts, false≢true, none-some, same_Some, among-append, among-kept}
 use Rattle.csi_world.proofs.Lemmas.{among-filter_map, find-passes, any-then, same_number-tells, same_text-tells}
 use Rattle.csi_types.specs.declared.call.Call.TheVariants as calls
@@ -43,11 +42,7 @@ is_ok-then status h = cc
 -- a reply that was heard to a sent call was sent to it
 pub heard-ok : (items : List Item) (issued : List Issued) (frames : List Frame) (call : Issued) (other : Number) (status : Status) (id : Option ℕ) → IsHeard items issued frames → EachTwo ComesAfter issued → IsAmong call issued
     → IsAmong (Accepted other status id) items → (same_number other call.number && is_ok_status status) ≡ true → (reply : Reply) × IsAnsweredOk frames call reply × (reply.id ≡ id)
-heard-ok items issued frames call other status id heard numbers there among passes =
-    let parts = and_parts (same_number other call.number) (is_ok_status status) passes in
-    let was = heard other status id among in
-    let same : was.call ≡ call = one-number issued numbers was.call call was.among there (was.has_number ∙ (same_number-tells other call.number).0 parts.0) in
-    (was.reply, (subst (λ (x : Issued). IsAmong (reply_frame x.number x.party (kind_of x.call) was.reply) frames) same was.sent, was.has_status ∙ is_ok-then status parts.1), was.has_id)
+heard-ok items issued frames call other status id heard numbers there among passes = grind (arith, and_parts, one-number, same_number-tells, is_ok-then)
 
 -- a success that was heard was sent
 pub success-ok : (items : List Item) (issued : List Issued) (frames : List Frame) (call : Issued) → IsHeard items issued frames → EachTwo ComesAfter issued → IsAmong call issued → has_success items call.number ≡ true
@@ -105,29 +100,11 @@ pub record IsLatest (items : List Item) (thing : Thing) (call : Issued) (doing :
 
 -- where a thing is known to be so, its latest call does it, and its success was heard
 pub known-yes : (history : History) (thing : Thing) → known history thing ≡ Yes → (call : Issued) × IsLatest history.items thing call true
-known-yes history thing h = by (find (touches thing) (calls_for thing history.items)) refl h
-  where
-    by : (o : Option Issued) → find (touches thing) (calls_for thing history.items) ≡ o → known_by history.items thing o ≡ Yes → (call : Issued) × IsLatest history.items thing call true
-    by None e h = absurd (false≢true (ap is_yes h))
-    by (Some call) e h = at (has_success history.items call.number) (is_doing call.call) refl refl (rw (find-passes (touches thing) (calls_for thing history.items) call e) at h)
-      where
-        at : (s d : Bool) → has_success history.items call.number ≡ s → is_doing call.call ≡ d → cond (not s) Maybe (cond d Yes No) ≡ Yes → (call : Issued) × IsLatest history.items thing call true
-        at true true p q h = (call, record { found = e; success = p; is_so = q })
-        at true false p q h = absurd (false≢true (ap is_yes h))
-        at false d p q h = absurd (false≢true (ap is_yes h))
+known-yes history thing h = grind (arith, calls_for, false≢true, find-passes)
 
 -- where it is known not to be so, no call of it was sent since, or the latest undoes it, and its success was heard
 pub known-no : (history : History) (thing : Thing) → known history thing ≡ No → (find (touches thing) (calls_for thing history.items) ≡ None) ⊎ ((call : Issued) × IsLatest history.items thing call false)
-known-no history thing h = by (find (touches thing) (calls_for thing history.items)) refl h
-  where
-    by : (o : Option Issued) → find (touches thing) (calls_for thing history.items) ≡ o → known_by history.items thing o ≡ No → (o ≡ None) ⊎ ((call : Issued) × IsLatest history.items thing call false)
-    by None e h = inl refl
-    by (Some call) e h = inr (at (has_success history.items call.number) (is_doing call.call) refl refl (rw (find-passes (touches thing) (calls_for thing history.items) call e) at h))
-      where
-        at : (s d : Bool) → has_success history.items call.number ≡ s → is_doing call.call ≡ d → cond (not s) Maybe (cond d Yes No) ≡ No → (call : Issued) × IsLatest history.items thing call false
-        at true true p q h = absurd (false≢true (ap is_no h))
-        at true false p q h = (call, record { found = e; success = p; is_so = q })
-        at false d p q h = absurd (false≢true (ap is_no h))
+known-no history thing h = grind (arith, calls_for, find-passes, false≢true)
 
 -- where the latest call undoes it, and its success was heard, it is known not to be so
 pub latest-gone : (history : History) (thing : Thing) (call : Issued) → IsLatest history.items thing call false → known history thing ≡ No

@@ -1,11 +1,10 @@
 -- What each row keeps is of a call that was sent, of the row's volume, and its reply is none of a late call.
 use Rattle.csi_world.proofs.Words.{◌≡◌, ◌⊎◌, ℕ, List, ◌∷◌, map, Bool, true, false, cond, Option, Some, None, refl, sym}
-use Rattle.csi_world.proofs.Words.{◌∙◌, ap, subst, inl, inr, ⊎_elim, ◌==◌, Number, Call, Node, kind_of, capacity_wanted}
-use Rattle.csi_world.proofs.Words.{Config, Frame, ok_reply_with, reply_frame, same_text, IsAmong, Kept, Fenced, Volume}
-use Rattle.csi_world.proofs.Words.{ControllerState, is_row_for, ended_volume, NodeState, AnsweredVolume, volume_of}
-use Rattle.csi_world.proofs.Words.{row_with_id, Issued, is_aborted}
+use Rattle.csi_world.proofs.Words.{◌∙◌, ap, subst, ⊎_elim, ◌==◌, Number, Call, Node, kind_of, capacity_wanted, Config}
+use Rattle.csi_world.proofs.Words.{Frame, ok_reply_with, reply_frame, IsAmong, Kept, Fenced, Volume, ControllerState}
+use Rattle.csi_world.proofs.Words.{is_row_for, ended_volume, NodeState, AnsweredVolume, volume_of, row_with_id, Issued}
+use Rattle.csi_world.proofs.Words.{is_aborted, arith}
 use Rattle.csi_world.proofs.Lemmas.{eqb-true, same_text-tells, among-either, among-map, changed-rows}
-use Rattle.csi_types.specs.declared.call.Call.TheVariants as calls
 use Rattle.csi_controller.specs.Model.Table as controller_table
 use Rattle.csi_controller.specs.Model.Fenced as controllers
 use Rattle.csi_controller.proofs.TableOutcomes as controller_outcomes
@@ -35,14 +34,7 @@ pub record NodeKeeps (issued : List Issued) (state : NodeState) : Type 0 where
 
 -- volumes of one id and name are the row of the same calls
 row-same : (call : Call) (a b : Volume) → a.id ≡ b.id → a.name ≡ b.name → is_row_for call a ≡ is_row_for call b
-row-same (calls.CreateVolume name required limit capabilities) a b ids names = ap (λ n. same_text n name) names
-row-same (calls.DeleteVolume id) a b ids names = ap (λ i. i == id) ids
-row-same (calls.ControllerPublishVolume id node capability readonly) a b ids names = ap (λ i. i == id) ids
-row-same (calls.ControllerUnpublishVolume id node) a b ids names = ap (λ i. i == id) ids
-row-same (calls.NodeStageVolume id capability) a b ids names = ap (λ i. i == id) ids
-row-same (calls.NodeUnstageVolume id) a b ids names = ap (λ i. i == id) ids
-row-same (calls.NodePublishVolume id target capability readonly) a b ids names = ap (λ i. i == id) ids
-row-same (calls.NodeUnpublishVolume id target) a b ids names = ap (λ i. i == id) ids
+row-same call a b ids names = grind arith
 
 -- what is so of a volume's row, whatever else of it changes
 record IsKeptSo (issued : List Issued) (volume : Volume) : Type 0 where
@@ -50,15 +42,7 @@ record IsKeptSo (issued : List Issued) (volume : Volume) : Type 0 where
   plain : IsPlain volume.kept.reply.status
 
 same-row : (issued : List Issued) (old new : Volume) → new.id ≡ old.id → new.name ≡ old.name → new.kept ≡ old.kept → IsKeptSo issued old → IsKeptSo issued new
-same-row issued old new ids names kept so = record {
-  of = record {
-    call = so.of.call;
-    among = so.of.among;
-    has_number = so.of.has_number ∙ ap (λ (k : Kept). k.number) (sym kept);
-    such = row-same so.of.call.call new old ids names ∙ so.of.such;
-  };
-  plain = ap (λ (k : Kept). is_aborted k.reply.status) kept ∙ so.plain;
-}
+same-row issued old new ids names kept so = grind (arith, row-same)
 
 -- a call that was sent and is carried out at a controller
 module _ (config : Config) (issued : List Issued) (one : Issued) (sent : IsAmong one issued) where
@@ -137,16 +121,7 @@ module _ (config : Config) (issued : List Issued) (one : Issued) (sent : IsAmong
 -- a row that is kept, or was
 kept-row : (id : ℕ) (kept : Kept) (rows : List AnsweredVolume) (o : Option AnsweredVolume) (row : AnsweredVolume) → IsAmong row (nodes.kept_rows id kept rows o)
     → IsAmong row rows ⊎ ((row.id ≡ id) × (row.kept ≡ kept))
-kept-row id kept rows None row among = ⊎_elim (λ there. inl there) (λ e. inr (ap (λ (r : AnsweredVolume). r.id) e, ap (λ (r : AnsweredVolume). r.kept) e)) (among-either rows _ row among)
-kept-row id kept rows (Some found) row among = let from = among-map (nodes.kept_in id kept) rows row among in by from.0 from.1 from.2 ((from.0).id == id) refl
-  where
-    by : (old : AnsweredVolume) → IsAmong old rows → row ≡ nodes.kept_in id kept old → (b : Bool) → (old.id == id) ≡ b → IsAmong row rows ⊎ ((row.id ≡ id) × (row.kept ≡ kept))
-    by old there is true same =
-        let now : nodes.kept_in id kept old ≡ record old { kept = kept } = rw same refl in
-        inr (ap (λ (r : AnsweredVolume). r.id) (is ∙ now) ∙ eqb-true old.id id same, ap (λ (r : AnsweredVolume). r.kept) (is ∙ now))
-    by old there is false other =
-        let now : nodes.kept_in id kept old ≡ old = rw other refl in
-        inl (subst (λ (r : AnsweredVolume). IsAmong r rows) (sym (is ∙ now)) there)
+kept-row id kept rows o row among = grind (arith, among-either, among-map, eqb-true)
 
 -- a call that was sent and is carried out at a node
 pub node-keeps : (node : List ℕ) (issued : List Issued) (one : Issued) → IsAmong one issued → (state : NodeState) → NodeKeeps issued state

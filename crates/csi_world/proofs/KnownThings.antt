@@ -1,19 +1,20 @@
 -- What an orchestrator's history tells of the things: what is known to be so, or not to be so, by the names, and what the plugins have by
 -- the ids that the names have.
-use Rattle.csi_world.proofs.Words.{◌≡◌, ◌⊎◌, ℕ, List, ◌++◌, Bool, true, false, Option, Some, None, find, ◌==◌, ◌&&◌}
-use Rattle.csi_world.proofs.Words.{IsTrue, refl, sym, ◌∙◌, ap, subst, inl, inr, ⊎_elim, Number, Capability, Call, Party}
-use Rattle.csi_world.proofs.Words.{Controller, Node, Reply, PluginView, IsClosed, IsBefore, Frame, PluginThing, Exists}
-use Rattle.csi_world.proofs.Words.{Attached, Staged, Published, StagedAs, same_plugin_thing, asked, IsAmong, EachTwo}
-use Rattle.csi_world.proofs.Words.{same_text, Thing, Yes, No, Issued, name_in, touches, is_thing, same_thing, thing_at}
-use Rattle.csi_world.proofs.Words.{is_doing, Item, History, issued_in, has_success, known}
+use Rattle.csi_world.proofs.Words.{◌≡◌, ◌⊎◌, ℕ, List, ◌++◌, Bool, true, false, Option, Some, None, find, IsTrue, refl}
+use Rattle.csi_world.proofs.Words.{sym, ◌∙◌, ap, subst, inl, inr, ⊎_elim, Number, Capability, Call, Party, Reply}
+use Rattle.csi_world.proofs.Words.{PluginView, IsClosed, IsBefore, Frame, PluginThing, Exists, Attached, Staged}
+use Rattle.csi_world.proofs.Words.{Published, StagedAs, asked, IsAmong, EachTwo, Thing, Yes, No, Issued, name_in}
+use Rattle.csi_world.proofs.Words.{touches, is_thing, thing_at, is_doing, Item, History, issued_in, has_success, known}
+use Rattle.csi_world.proofs.Words.{arith}
 use Rattle.csi_world.proofs.Lemmas.{and_parts, eqb-true, false≢true, none-some, same_Some, among-find, find-passes}
 use Rattle.csi_world.proofs.Lemmas.{find-same_among, same_plugin_thing-tells, find-behind}
-use Rattle.csi_types.specs.declared.call.Call.TheVariants as calls
 use Rattle.csi_orchestrator.specs.declared.thing.Thing.TheVariants as things
 use Rattle.csi_world.proofs.GivenIds.{GivenId, HasNow, HasOld, HasName, AreGiven}
 use Rattle.csi_world.proofs.CallThings.{IsAnsweredOk, ComesAfter, IsOwn, IsOwnOld, IsOne, IsThingBy, Existence, Attachment, Staging, Publication, of_thing, is_plugin_thing, is_of}
-use Rattle.csi_world.proofs.Lifetimes.{latest, calls_since, calls_before, calls_for, is_past, over_in, IsTimed, since-or-before, before-sent, for-sent, calls-split, calls-exists, calls-same, since-rising, over-before}
-use Rattle.csi_world.proofs.Lifetimes.{find-in_first, find-narrower, none-narrower, same-narrower, none-after_old, same-wider}
+use Rattle.csi_world.proofs.Lifetimes.{latest, calls_since, calls_before, calls_for, is_past, over_in, IsTimed}
+use Rattle.csi_world.proofs.Lifetimes.{since-or-before, before-sent, for-sent, calls-split, calls-exists, calls-same}
+use Rattle.csi_world.proofs.Lifetimes.{since-rising, over-before, find-in_first, find-narrower, none-narrower}
+use Rattle.csi_world.proofs.Lifetimes.{same-narrower, none-after_old, same-wider}
 use Rattle.csi_world.proofs.NamedCalls.{Named, own, of-then-touches, touches-then-of, same-tells}
 use Rattle.csi_world.proofs.HeardReplies.{IsHeard, IsLatest, success-ok, known-yes, known-no, latest-known}
 use Rattle.csi_world.proofs.RepliesTold.{Truth}
@@ -37,30 +38,15 @@ pub record IsSoFar (history : History) (frames : List Frame) (view : PluginView)
 
 -- a call that undoes asks for nothing
 pub asked-undoing : (c : Call) (reply : Reply) → is_doing c ≡ false → asked c reply ≡ None
-asked-undoing (calls.DeleteVolume id) reply h = refl
-asked-undoing (calls.ControllerUnpublishVolume id node) reply h = refl
-asked-undoing (calls.NodeUnstageVolume id) reply h = refl
-asked-undoing (calls.NodeUnpublishVolume id target) reply h = refl
-asked-undoing c reply h = absurd (false≢true (sym h))
+asked-undoing c reply h = grind (arith, false≢true)
 
 -- the thing of a call has its name
 pub at-named : (name : List ℕ) (party : Party) (call : Call) (thing : Thing) → thing_at name party call ≡ Some thing → name_in thing ≡ name
-at-named name party (calls.CreateVolume create required limit capabilities) thing e = ap name_in (sym (same_Some (things.Exists name) thing e))
-at-named name party (calls.DeleteVolume id) thing e = ap name_in (sym (same_Some (things.Exists name) thing e))
-at-named name party (calls.ControllerPublishVolume id node capability readonly) thing e = ap name_in (sym (same_Some (things.Attached name node) thing e))
-at-named name party (calls.ControllerUnpublishVolume id node) thing e = ap name_in (sym (same_Some (things.Attached name node) thing e))
-at-named name (Node node) (calls.NodeStageVolume id capability) thing e = ap name_in (sym (same_Some (things.Staged name node) thing e))
-at-named name (Node node) (calls.NodeUnstageVolume id) thing e = ap name_in (sym (same_Some (things.Staged name node) thing e))
-at-named name (Node node) (calls.NodePublishVolume id target capability readonly) thing e = ap name_in (sym (same_Some (things.Published name node target) thing e))
-at-named name (Node node) (calls.NodeUnpublishVolume id target) thing e = ap name_in (sym (same_Some (things.Published name node target) thing e))
-at-named name Controller call thing e = absurd (none-some thing e)
+at-named name party call thing e = grind (arith, same_Some, none-some)
 
 -- a thing by the id that its name has now is one by an id that its name was given
 pub one-named : (given : List GivenId) (thing : Thing) (plugin_thing : PluginThing) → IsOne given thing plugin_thing → IsThingBy (HasName given) thing plugin_thing
-one-named given _ _ (Existence name) = Existence name
-one-named given _ _ (Attachment name node id has) = Attachment name node id (inl has)
-one-named given _ _ (Staging name node id has) = Staging name node id (inl has)
-one-named given _ _ (Publication name node target id has) = Publication name node target id (inl has)
+one-named given thing plugin_thing h = grind (arith, Existence, Attachment, Staging, Publication)
 
 -- whether a volume is there
 abbrev pub is_exists : Thing → Bool
@@ -74,34 +60,11 @@ not-exists thing other name is = false≢true (sym other ∙ ap is_exists is)
 -- a call that was sent before its name was forgotten is of no thing by the id that the name has now, but of whether its volume is there
 old-not_of : (given : List GivenId) (thing : Thing) (plugin_thing : PluginThing) (call : Issued) → AreGiven given → IsOne given thing plugin_thing → is_exists thing ≡ false
     → IsOwnOld given call.name call.party call.call → is_of plugin_thing call ≡ true → ⊥
-old-not_of given thing plugin_thing call are one other mine of =
-    let its = of_thing (HasOld given) call.name call.party call.call mine in
-    by thing its.thing plugin_thing its.plugin_thing one its.one other (ap (is_plugin_thing plugin_thing) (sym its.by_name) ∙ of)
-  where
-    clash : (a b : List ℕ) (i j : ℕ) → HasNow given a i → HasOld given b j → (i == j) ≡ true → ⊥
-    clash a b i j has had same =
-        let had_i : HasOld given b i = subst (HasOld given b) (sym (eqb-true i j same)) had in
-        are.apart a i has (subst (λ n. HasOld given n i) (sym (are.one_name a b i (inl has) (inr had_i))) had_i)
-
-    by : (t u : Thing) (k l : PluginThing) → IsOne given t k → IsThingBy (HasOld given) u l → is_exists t ≡ false → same_plugin_thing k l ≡ true → ⊥
-    by _ _ _ _ (Existence name) other not same = false≢true (sym not)
-    by _ _ _ _ (Attachment name node i has) (Attachment also there j had) not same = clash name also i j has had (and_parts (i == j) (same_text node there) same).0
-    by _ _ _ _ (Staging name node i has) (Staging also there j had) not same = clash name also i j has had (and_parts (i == j) (same_text node there) same).0
-    by _ _ _ _ (Publication name node target i has) (Publication also there aim j had) not same =
-        clash name also i j has had (and_parts (i == j) (same_text node there) (and_parts ((i == j) && same_text node there) (same_text target aim) same).0).0
-    by _ _ _ _ one other not same = false≢true same
+old-not_of given thing plugin_thing call are one other mine of = grind (arith, of_thing, HasOld, is_plugin_thing, HasNow, eqb-true, IsOne, IsThingBy, Existence, false≢true, Attachment, and_parts, Staging, Publication)
 
 -- whether a volume is there is asked of the same calls by the name, whichever id it has
 exists-same : (given : List GivenId) (name : List ℕ) (call : Issued) → IsOwn given call.name call.party call.call → touches (things.Exists name) call ≡ is_of (Exists name) call
-exists-same given name call mine =
-    let its = of_thing (HasName given) call.name call.party call.call mine in
-    ap (is_thing (things.Exists name)) its.by_thing ∙ by its.thing its.plugin_thing its.one ∙ ap (is_plugin_thing (Exists name)) (sym its.by_name)
-  where
-    by : (u : Thing) (l : PluginThing) → IsThingBy (HasName given) u l → same_thing (things.Exists name) u ≡ same_plugin_thing (Exists name) l
-    by _ _ (Existence other) = refl
-    by _ _ (Attachment other node id has) = refl
-    by _ _ (Staging other node id has) = refl
-    by _ _ (Publication other node target id has) = refl
+exists-same given name call mine = grind (arith, of_thing, HasName, is_plugin_thing, IsThingBy, Existence, Attachment, Staging, Publication)
 
 -- a thing that is known to be so, by some id that its name was given, and the call that made it so
 pub record IsDone (history : History) (given : List GivenId) (thing : Thing) : Type 0 where

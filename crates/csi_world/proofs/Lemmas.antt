@@ -10,9 +10,9 @@ pub use Rattle.std.proofs.lemmas.Option.{none-some, same_Some}
 pub use Rattle.csi_lists.proofs.Each.{each-append, each-append_one, each-at, each-filter, each-place}
 pub use Rattle.csi_lists.proofs.Maps.{map-same}
 pub use Rattle.csi_lists.proofs.Members.{all_of, among-append, among-by_key, among-either, among-filter}
-pub use Rattle.csi_lists.proofs.Members.{among-filter_map, among-find, among-flat, among-joined, among-kept, among-last}
-pub use Rattle.csi_lists.proofs.Members.{among-map, among-one, among-right, each_of, empty-where, in-filter_map}
-pub use Rattle.csi_lists.proofs.Members.{in-flat, in-map, in_filter, none_passes, some-found}
+pub use Rattle.csi_lists.proofs.Members.{among-filter_map, among-find, among-flat, among-joined, among-kept}
+pub use Rattle.csi_lists.proofs.Members.{among-last, among-map, among-one, among-right, each_of, empty-where}
+pub use Rattle.csi_lists.proofs.Members.{in-filter_map, in-flat, in-map, in_filter, none_passes, some-found}
 pub use Rattle.csi_lists.proofs.Options.{is_some-map, none-from_map, none-where, some-from_map, some_is_not_none}
 pub use Rattle.csi_lists.proofs.Pairs.{two-append, two-by_key, two-filter, two-map, two-more}
 pub use Rattle.csi_lists.proofs.Places.{FirstAt-find, FirstAt-only, FirstAt-passes, FirstAt-position, at-index}

@@ -1,17 +1,16 @@
 -- The calls of a thing, by its id, since what was so of it ended without a call: a node was lost, or a name forgotten. All calls before
 -- that are of an earlier session than the one that began then.
 use Rattle.csi_world.proofs.Words.{◌≡◌, ◌⊎◌, ℕ, ◌<◌, ◌≤◌, List, [], ◌∷◌, ◌++◌, Bool, true, false, cond, if◌then◌else◌}
-use Rattle.csi_world.proofs.Words.{Option, Some, None, find, IsTrue, refl, sym, ◌∙◌, ap, subst, inl, inr, ⊎_elim, arith}
-use Rattle.csi_world.proofs.Words.{AllByRecursion, Number, is_before, IsBefore, same_text, PluginThing, Exists}
+use Rattle.csi_world.proofs.Words.{Option, Some, None, find, IsTrue, refl, sym, ◌∙◌, ap, subst, inl, inr, ⊎_elim}
+use Rattle.csi_world.proofs.Words.{arith, AllByRecursion, Number, is_before, IsBefore, same_text, PluginThing, Exists}
 use Rattle.csi_world.proofs.Words.{Attached, Staged, Published, IsAmong, EachTwo, is_over, Issued, Item, Lost}
-use Rattle.csi_world.proofs.Words.{Forgotten, Sent, History, Thing, since, is_forgetting, lifetime, issued_by}
-use Rattle.csi_world.proofs.Words.{issued_in, last_in}
+use Rattle.csi_world.proofs.Words.{Forgotten, Sent, History, Thing, since, lifetime, issued_by, issued_in, last_in}
 use Rattle.csi_world.proofs.Lemmas.{false≢true, false_from_ne_true, ltb-true, nat_tests, filter_map-append, none-some}
 use Rattle.csi_world.proofs.Lemmas.{same_Some, each_of, among-append, among-right, among-joined, among-find}
 use Rattle.csi_world.proofs.Lemmas.{none_passes, some-found, find-none, find-passes}
 use Rattle.csi_orchestrator.specs.declared.thing.Thing.TheVariants as things
 use Rattle.csi_orchestrator.specs.Model.Readings as orchestrator
-use Rattle.csi_world.proofs.CallThings.{IsThingBy, Existence, Attachment, Staging, Publication, is_of, ComesAfter}
+use Rattle.csi_world.proofs.CallThings.{IsThingBy, is_of, ComesAfter}
 
 -- what is staged or published at the node
 abbrev pub is_on : List ℕ → PluginThing → Bool
@@ -59,18 +58,11 @@ is_past history thing number = is_over (over_in history.began history.items thin
 
 -- two tests that say the same of each item leave the same
 since-alike : (p q : Item → Bool) → ((item : Item) → p item ≡ q item) → (items : List Item) → since p items ≡ since q items
-since-alike p q alike [] = refl
-since-alike p q alike (item ∷ older) =
-    ap (λ b. cond b [] (item ∷ since p older)) (alike item) ∙ ap (λ (xs : List Item). cond (q item) [] (item ∷ xs)) (since-alike p q alike older)
+since-alike p q alike items = grind arith
 
 -- a name's lifetime is what came since its volume's being there ended
 pub lifetime-is : (name : List ℕ) (items : List Item) → lifetime name items ≡ since (ends (Exists name)) items
-lifetime-is name items = since-alike (is_forgetting name) (ends (Exists name)) alike items
-  where
-    alike : (item : Item) → is_forgetting name item ≡ ends (Exists name) item
-    alike (Lost node) = refl
-    alike (Forgotten other) = refl
-    alike item = refl
+lifetime-is name items = grind (arith, since-alike)
 
 -- ---- what an orchestrator knows of a thing is told by the calls since a loss ended it
 
@@ -85,42 +77,16 @@ since-all is none (item ∷ older) = ap (λ b. cond b [] (item ∷ since is olde
 
 -- a name's being there is ended by no loss
 pub calls-exists : (name : List ℕ) (items : List Item) → calls_for (things.Exists name) items ≡ issued_in items
-calls-exists name items = ap issued_in (since-all (orchestrator.ends (things.Exists name)) none items)
-  where
-    none : (item : Item) → orchestrator.ends (things.Exists name) item ≡ false
-    none (Lost node) = refl
-    none item = refl
+calls-exists name items = grind (arith, since-all)
 
 -- nor is where its volume is attached
 pub calls-attached : (name node : List ℕ) (items : List Item) → calls_for (things.Attached name node) items ≡ issued_in items
-calls-attached name node items = ap issued_in (since-all (orchestrator.ends (things.Attached name node)) none items)
-  where
-    none : (item : Item) → orchestrator.ends (things.Attached name node) item ≡ false
-    none (Lost lost) = refl
-    none item = refl
+calls-attached name node items = grind (arith, since-all)
 
 -- what else is so of a volume ends by its name where it does by an id
 ends-alike : {has : List ℕ → ℕ → Type 0} (thing : Thing) (plugin_thing : PluginThing) → IsThingBy has thing plugin_thing → ((name : List ℕ) → thing ≡ things.Exists name → ⊥) → (item : Item)
     → orchestrator.ends thing item ≡ ends plugin_thing item
-ends-alike _ _ (Existence name) other item = absurd (other name refl)
-ends-alike _ _ (Attachment name node id has) other item = at item
-  where
-    at : (item : Item) → orchestrator.ends (things.Attached name node) item ≡ ends (Attached id node) item
-    at (Lost lost) = refl
-    at (Forgotten gone) = refl
-    at item = refl
-ends-alike _ _ (Staging name node id has) other item = at item
-  where
-    at : (item : Item) → orchestrator.ends (things.Staged name node) item ≡ ends (Staged id node) item
-    at (Lost lost) = refl
-    at (Forgotten gone) = refl
-    at item = refl
-ends-alike _ _ (Publication name node target id has) other item = at item
-  where
-    at : (item : Item) → orchestrator.ends (things.Published name node target) item ≡ ends (Published id node target) item
-    at (Lost lost) = refl
-    at (Forgotten gone) = refl
-    at item = refl
+ends-alike thing plugin_thing h other item = grind arith
 
 -- so it is of the calls since
 pub calls-same : {has : List ℕ → ℕ → Type 0} (thing : Thing) (plugin_thing : PluginThing) (items : List Item) → IsThingBy has thing plugin_thing → ((name : List ℕ) → thing ≡ things.Exists name → ⊥)
@@ -130,11 +96,7 @@ calls-same thing plugin_thing items of other = ap issued_in (since-alike (orches
 -- the items since and those before are all
 split : (is : Item → Bool) (items : List Item) → items ≡ since is items ++ from is items
 split is [] = refl
-split is (item ∷ older) = by (is item) (split is older)
-  where
-    by : (b : Bool) → older ≡ since is older ++ from is older → item ∷ older ≡ cond b [] (item ∷ since is older) ++ cond b (item ∷ older) (from is older)
-    by true rest = refl
-    by false rest = ap (λ (xs : List Item). item ∷ xs) rest
+split is (item ∷ older) = grind (arith, (split is older))
 
 -- so are the calls
 pub calls-split : (thing : PluginThing) (items : List Item) → issued_in items ≡ calls_since thing items ++ calls_before thing items

@@ -1,9 +1,8 @@
 -- Nodes that are like what is listed of them, one by one; and what the readers of the plugins list is like each world that the
 -- plugins show.
-use Rattle.csi_world.proofs.Words.{◌≡◌, List, [], ◌∷◌, map, Bool, true, false, cond, Some, find, refl, sym, ◌∙◌, ap}
-use Rattle.csi_world.proofs.Words.{subst, inl, inr, ◌++◌, list_any, IsAmong, same_text, NodeAt, NodeLists}
-use Rattle.csi_world.proofs.Words.{AreDistinctTexts, node_listed, IsNodeAlike, AreNodesAlike, IsListOf, AreListsOf}
-use Rattle.csi_world.proofs.Words.{NodeParts, AreNodesShown}
+use Rattle.csi_world.proofs.Words.{◌≡◌, List, [], ◌∷◌, map, true, Some, find, refl, sym, ap, subst, inl, inr, ◌++◌}
+use Rattle.csi_world.proofs.Words.{list_any, IsAmong, same_text, NodeAt, NodeLists, AreDistinctTexts, node_listed}
+use Rattle.csi_world.proofs.Words.{IsNodeAlike, AreNodesAlike, IsListOf, AreListsOf, NodeParts, AreNodesShown, arith}
 use Rattle.csi_world.proofs.Lemmas.{false≢true, in-map, then-any, same_text-tells}
 
 -- ---- each node with the list of it
@@ -35,13 +34,7 @@ node-found-by-id [] n apart among = absurd among
 node-found-by-id (m ∷ ms) n apart (inl e) =
     let own : same_text m.id n.id ≡ true = (same_text-tells m.id n.id).1 (ap (λ (k : NodeAt). k.id) (sym e)) in
     rw own (ap Some (sym e))
-node-found-by-id (m ∷ ms) n apart (inr there) = by (same_text m.id n.id) refl (node-found-by-id ms n apart.1 there)
-  where
-    by : (b : Bool) → same_text m.id n.id ≡ b → find (λ (k : NodeAt). same_text k.id n.id) ms ≡ Some n → cond b (Some m) (find (λ (k : NodeAt). same_text k.id n.id) ms) ≡ Some n
-    by true e found =
-        let same : n.id ≡ m.id = sym ((same_text-tells m.id n.id).0 e) in
-        absurd (false≢true (sym apart.0 ∙ ap (λ id. list_any (same_text id) (map (λ (k : NodeAt). k.id) ms)) (sym same) ∙ id_among ms n there))
-    by false e found = found
+node-found-by-id (m ∷ ms) n apart (inr there) = grind (arith, same_text-tells, false≢true, id_among, (node-found-by-id ms n apart.1 there))
 
 -- ---- the lists of nodes
 

@@ -2,7 +2,7 @@
 use Rattle.csi_world.proofs.Words.{◌≡◌, ℕ, zero, suc, ◌+◌, ◌<◌, List, [], ◌∷◌, ◌++◌, length, set, replicate, get_or}
 use Rattle.csi_world.proofs.Words.{map, Bool, true, false, ◌||◌, take, Some, None, position, refl, sym, ◌∙◌, ap, subst}
 use Rattle.csi_world.proofs.Words.{inl, inr, list_any, list_all, IsAmong, FirstAt, Thing, Known, Yes, IsInOrder}
-use Rattle.csi_world.proofs.Words.{same_thing, is_entry_listed, is_entry_of, is_noted}
+use Rattle.csi_world.proofs.Words.{same_thing, is_entry_listed, is_entry_of, is_noted, arith}
 use Rattle.csi_world.proofs.Lemmas.{and_from, get_or_default, take_more, FirstAt-position, FirstAt-passes}
 use Rattle.csi_world.proofs.Lemmas.{find-no_place, any-find_none, then-any}
 use Rattle.std.proofs.lemmas.List.Folds.{list_any-append, list_all_at, list_all_more}
@@ -29,14 +29,7 @@ turned : (a b : Thing) → same_thing a b ≡ true → same_thing b a ≡ true
 turned a b h = subst (λ (t : Thing). same_thing t a ≡ true) (same-tells a b h) (same-itself a)
 
 turned-not : (a b : Thing) → same_thing a b ≡ false → same_thing b a ≡ false
-turned-not a b h = by (same_thing b a) refl
-  where
-    clash : same_thing b a ≡ true → true ≡ false
-    clash e = sym (turned b a e) ∙ h
-
-    by : (t : Bool) → same_thing b a ≡ t → t ≡ false
-    by true e = clash e
-    by false e = refl
+turned-not a b h = grind (arith, turned)
 
 -- the entry of the next thing is marked
 marked-here : (things : List Thing) (thing : Thing) (entry : Thing × Known) → same_thing thing entry.0 ≡ true → is_entry_listed (things ++ thing ∷ []) entry ≡ true

@@ -1,10 +1,9 @@
 -- What is known to be so is so, and what is known not to be so isn't, by the list of what holds; and what an audit finds then.
 use Rattle.csi_world.proofs.Words.{◌≡◌, ◌≢◌, ◌↔◌, List, Bool, true, IsTrue, ◌&&◌, refl, sym, ◌∙◌, subst, list_all}
-use Rattle.csi_world.proofs.Words.{IsAmong, Thing, Known, Yes, No, Maybe, ListsKnown, same_thing, World, holds}
-use Rattle.csi_world.proofs.Words.{AreMarkedRight, is_listed, is_noted, is_affirmed}
+use Rattle.csi_world.proofs.Words.{IsAmong, Thing, Known, Yes, No, ListsKnown, same_thing, World, holds}
+use Rattle.csi_world.proofs.Words.{AreMarkedRight, is_listed, is_noted, is_affirmed, arith}
 use Rattle.csi_world.proofs.Lemmas.{and_parts, and_from, false≢true, false_from_ne_true, all-then, then-all, any-then}
 use Rattle.csi_world.proofs.Lemmas.{then-any, same_text-tells}
-use Rattle.csi_orchestrator.specs.declared.thing.Thing.TheVariants.{Exists, Attached, Staged, Published}
 use Rattle.csi_world.proofs.NamedCalls.{same-tells}
 
 -- Yes isn't No
@@ -15,11 +14,7 @@ yes_not_no e = cc
 
 -- a thing is the same as itself
 pub same-itself : (thing : Thing) → same_thing thing thing ≡ true
-same-itself (Exists name) = (same_text-tells name name).1 refl
-same-itself (Attached name node) = and_from _ _ ((same_text-tells name name).1 refl) ((same_text-tells node node).1 refl)
-same-itself (Staged name node) = and_from _ _ ((same_text-tells name name).1 refl) ((same_text-tells node node).1 refl)
-same-itself (Published name node target) =
-    and_from _ _ (and_from _ _ ((same_text-tells name name).1 refl) ((same_text-tells node node).1 refl)) ((same_text-tells target target).1 refl)
+same-itself thing = grind (arith, same_text-tells, and_from)
 
 -- ---- what holds, and what is noted
 
@@ -47,9 +42,7 @@ is-listed things thing among = then-any (same_thing thing) things thing among (s
 
 -- an entry passes where its thing is in the list, if it is known to be so
 each-affirmed : (things : List Thing) (entry : Thing × Known) → (entry.1 ≡ Yes → IsAmong entry.0 things) → is_affirmed things entry ≡ true
-each-affirmed things (thing, Yes) f = is-listed things thing (f refl)
-each-affirmed things (thing, No) f = refl
-each-affirmed things (thing, Maybe) f = refl
+each-affirmed things entry f = grind (arith, is-listed)
 
 -- by a list of what holds and a list of what is known, the two tests tell whether all is marked right
 pub marked-told : (marks : Thing → Known) (world : World) (things : List Thing) (noted : List (Thing × Known)) → ((thing : Thing) → IsAmong thing things ↔ (holds world thing ≡ true)) → ListsKnown marks noted

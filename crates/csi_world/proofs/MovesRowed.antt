@@ -2,26 +2,24 @@
 use Rattle.csi_world.proofs.Words.{◌≡◌, ◌⊎◌, ℕ, zero, suc, ◌<◌, List, [], ◌∷◌, ◌++◌, length, map, filter, filter_map}
 use Rattle.csi_world.proofs.Words.{Bool, true, false, cond, not, Option, Some, None, ◌&&◌, ◌==◌, Result, Ok, Err}
 use Rattle.csi_world.proofs.Words.{slice_get, refl, sym, ◌∙◌, ap, subst, inl, inr, arith, append_assoc, ◌+◌, is_none}
-use Rattle.csi_world.proofs.Words.{nat_le, cons_option, MAX_ROWS, Call, Kind, Party, Controller, Node, Event, Body}
-use Rattle.csi_world.proofs.Words.{Number, Reply, kind_of, Frame, is_ok_status, same_text, same_number, same_party}
-use Rattle.csi_world.proofs.Words.{same_kind, Exists, IsAmong, NodeState, OrchFault, Usage, Issued, Goal, Create, Use}
-use Rattle.csi_world.proofs.Words.{Stop, Delete, Item, Started, Lost, Forgotten, Accepted, Noted, History, with_items}
-use Rattle.csi_world.proofs.Words.{names_of, goal_of, open_call, tries, last_number, nodes_of, has_row, issued_in}
-use Rattle.csi_world.proofs.Words.{is_forgetting, next_number, create_fault, use_fault, use_room_fault, stop_fault}
-use Rattle.csi_world.proofs.Words.{delete_fault, delete_busy_fault, timeout_fault, restart_fault, loss_fault, Due}
-use Rattle.csi_world.proofs.Words.{due_for, due_call, Input, ToCreate, ToUse, ToStop, ToDelete, TimesOut, Comes}
-use Rattle.csi_world.proofs.Words.{Restarts, Answer, Hears, Moved, met_already, moves, send_due, sent_as, command}
-use Rattle.csi_world.proofs.Words.{use_when, delete_when, is_forward_due, undoing_goal, closing, timeout}
-use Rattle.csi_world.proofs.Words.{is_number_open, call_replied, hears, heard, heard_refusal, deliver, is_forgotten}
-use Rattle.csi_world.proofs.Words.{forgetting, stopping, stopping_all, restart, lose, IsWellFormed, moved_to, MayDoAll}
-use Rattle.csi_world.proofs.Words.{AreStepwise, World, node_state, with_history, answered_by_plugin, Occurred}
-use Rattle.csi_world.proofs.Words.{by_answer, by_result, orchestrated, called_at, called, delivered_body, delivered}
-use Rattle.csi_world.proofs.Words.{restarted_at, joined_at, lost_by, is_node_of, occurs}
+use Rattle.csi_world.proofs.Words.{MAX_ROWS, Call, Kind, Party, Controller, Node, Event, Body, Number, Reply, Frame}
+use Rattle.csi_world.proofs.Words.{is_ok_status, same_text, Exists, IsAmong, NodeState, OrchFault, Usage, Issued, Goal}
+use Rattle.csi_world.proofs.Words.{Create, Use, Stop, Delete, Item, Started, Lost, Forgotten, Accepted, Noted, History}
+use Rattle.csi_world.proofs.Words.{with_items, names_of, goal_of, open_call, tries, last_number, nodes_of, has_row}
+use Rattle.csi_world.proofs.Words.{issued_in, is_forgetting, next_number, create_fault, use_fault, use_room_fault}
+use Rattle.csi_world.proofs.Words.{stop_fault, delete_fault, timeout_fault, restart_fault, loss_fault, Due, due_for}
+use Rattle.csi_world.proofs.Words.{due_call, Input, ToCreate, ToUse, ToStop, ToDelete, TimesOut, Comes, Restarts}
+use Rattle.csi_world.proofs.Words.{Answer, Moved, met_already, moves, send_due, sent_as, command, use_when}
+use Rattle.csi_world.proofs.Words.{delete_when, is_forward_due, undoing_goal, closing, timeout, is_number_open}
+use Rattle.csi_world.proofs.Words.{call_replied, hears, heard, heard_refusal, deliver, is_forgotten, forgetting}
+use Rattle.csi_world.proofs.Words.{stopping, stopping_all, restart, lose, IsWellFormed, moved_to, MayDoAll}
+use Rattle.csi_world.proofs.Words.{AreStepwise, World, node_state, answered_by_plugin, Occurred, orchestrated}
+use Rattle.csi_world.proofs.Words.{called_at, called, delivered_body, delivered, restarted_at, joined_at, lost_by}
+use Rattle.csi_world.proofs.Words.{is_node_of, occurs}
 use Rattle.csi_world.proofs.Lemmas.{and_parts, false≢true, nat_tests, same_text-tells, find-passes, then-any, open-sent}
 use Rattle.csi_types.specs.declared.call.Call.TheVariants as calls
 use Rattle.csi_types.specs.declared.event.Event.TheVariants as events
 use Rattle.csi_types.specs.declared.frame.Body.TheVariants as bodies
-use Rattle.csi_orchestrator.specs.declared.fault.Heard.TheVariants as heards
 use Rattle.csi_orchestrator.specs.declared.fault.OrchFault.TheVariants as faults
 use Rattle.csi_orchestrator.specs.Model.Moves.{Loses, Sends, without_node}
 use Rattle.csi_orchestrator.proofs.SinceItems.{forgets-break, open-since}
@@ -59,29 +57,11 @@ command-fit history name goal None fit = sent-fit history name Sends (Noted name
 
 -- a fault that is told first where there is no row
 row-first : (row : Bool) (fault : OrchFault) (others : Option OrchFault) → cond (not row) (Some fault) others ≡ None → row ≡ true
-row-first true fault others e = refl
-row-first false fault others e = absurd (some-none fault e)
-  where
-    some-none : (f : OrchFault) → Some f ≡ None → ⊥
-    some-none f h = cc
+row-first row fault others e = grind arith
 
 -- a create
 create-fits : (history : History) (name : List ℕ) → create_fault history name ≡ None → (has_row history name ≡ true) ⊎ (length (names_of history) < MAX_ROWS)
-create-fits history name e = by _ _ (has_row history name) (nat_le MAX_ROWS (length (names_of history))) refl e
-  where
-    below : (n : ℕ) → nat_le MAX_ROWS n ≡ false → n < MAX_ROWS
-    below n h = grind (arith, nat_tests)
-
-    clash : (f : OrchFault) → Some f ≡ None → ⊥
-    clash f h = cc
-
-    by : (used spent row full : Bool) → nat_le MAX_ROWS (length (names_of history)) ≡ full → cond used (Some faults.NameUsed) (cond spent (Some faults.NumbersSpent) (cond (not row && full) (Some faults.Full) None)) ≡ None
-        → (row ≡ true) ⊎ (length (names_of history) < MAX_ROWS)
-    by true spent row full f e = absurd (clash faults.NameUsed e)
-    by false true row full f e = absurd (clash faults.NumbersSpent e)
-    by false false true full f e = inl refl
-    by false false false true f e = absurd (clash faults.Full e)
-    by false false false false f e = inr (below (length (names_of history)) f)
+create-fits history name e = grind (arith, nat_tests)
 
 -- a use
 use-fit : (history : History) (name : List ℕ) (usage : Usage) (fault : Option OrchFault) → use_fault history name usage ≡ fault → AllFit history (use_when history name usage fault)
@@ -94,12 +74,7 @@ use-fit history name usage None e = by (is_none (due_for history name (Some (Use
 
 -- a delete
 delete-fit : (history : History) (name : List ℕ) (fault : Option OrchFault) → delete_fault history name ≡ fault → AllFit history (delete_when history name fault)
-delete-fit history name (Some fault) e = tt
-delete-fit history name None e = by _
-  where
-    by : (b : Bool) → AllFit history (cond b (Ok met_already) (command history name Delete (delete_busy_fault history name)))
-    by true = tt
-    by false = command-fit history name Delete (delete_busy_fault history name) (λ free. inl (row-first (has_row history name) faults.NoSuchVolume _ e))
+delete-fit history name fault e = grind (arith, command-fit, row-first)
 
 -- giving up a call
 closing-fit : (history : History) (call : Option Issued) → AreFit history (closing call)
@@ -144,11 +119,7 @@ number-open number None h = absurd (false≢true h)
 number-open number (Some call) h = (call, refl)
 
 replied-rowed : (history : History) (number : Number) (party : Party) (kind : Kind) (issued : Issued) → IsWellFormed history → AreRowed history → call_replied history number party kind ≡ Some issued → has_row history issued.name ≡ true
-replied-rowed history number party kind issued form rowed e =
-    let passes = find-passes (λ (i : Issued). same_number i.number number && same_party i.party party && same_kind (kind_of i.call) kind && is_number_open number (open_call history i.name)) (issued_in history.items) issued e in
-    let is_open = (and_parts (same_number issued.number number && same_party issued.party party && same_kind (kind_of issued.call) kind) (is_number_open number (open_call history issued.name)) passes).1 in
-    let there = number-open number (open_call history issued.name) is_open in
-    open-rowed history issued.name there.0 form rowed there.1
+replied-rowed history number party kind issued form rowed e = grind (arith, find-passes, and_parts, number-open, open-rowed)
 
 -- a reply
 heard-fit : (history : History) (reply : Reply) (o : Option Issued) → ((issued : Issued) → o ≡ Some issued → has_row history issued.name ≡ true) → AllFit history (heard history reply o)
@@ -202,28 +173,13 @@ KeepRows history first items = AreFit history (items ++ first) × ((name : List 
 
 -- so does one more that is noted, of a name that had a row
 noted-keeps : (history : History) (first items : List Item) (name : List ℕ) (goal : Option Goal) → has_row (with_items history first) name ≡ true → KeepRows history first items → KeepRows history first (Noted name goal ∷ items)
-noted-keeps history first items name goal row kept = ((inl (kept.1 name row), kept.0), λ other own. there other (kept.1 other own))
-  where
-    there : (other : List ℕ) → has_row (with_items history (items ++ first)) other ≡ true → has_row (with_items history (Noted name goal ∷ (items ++ first))) other ≡ true
-    there other own = noted-row (with_items history (items ++ first)) name other goal ∙ at (same_text name other)
-      where
-        at : (b : Bool) → cond b true (has_row (with_items history (items ++ first)) other) ≡ true
-        at true = refl
-        at false = own
+noted-keeps history first items name goal row kept = grind (arith, noted-row)
 
 -- names keep their rows where uses are stopped
 stopping-fit : (history : History) (node : List ℕ) (first : List Item) (names : List (List ℕ)) → ((name : List ℕ) → IsAmong name names → has_row (with_items history first) name ≡ true) → AreFit history first
     → KeepRows history first (stops_of history node names)
 stopping-fit history node first [] rows fit = (fit, λ name row. row)
-stopping-fit history node first (name ∷ names) rows fit = by (goal_of history name) (rows name (inl refl)) (stopping-fit history node first names (λ other among. rows other (inr among)) fit)
-  where
-    by : (goal : Option Goal) → has_row (with_items history first) name ≡ true → KeepRows history first (stops_of history node names) → KeepRows history first (cons_option (stopping node name goal) (stops_of history node names))
-    by (Some (Use usage)) row kept = at (same_text usage.node node)
-      where
-        at : (b : Bool) → KeepRows history first (cons_option (cond b (Some (Noted name (Some (Stop usage.node usage.target)))) None) (stops_of history node names))
-        at true = noted-keeps history first (stops_of history node names) name (Some (Stop usage.node usage.target)) row kept
-        at false = kept
-    by goal row kept = kept
+stopping-fit history node first (name ∷ names) rows fit = grind (arith, noted-keeps, (stopping-fit history node first names (λ other among. rows other (inr among)) fit))
 
 -- a name among those that have rows has one
 among-row : (history : History) (name : List ℕ) → IsAmong name (names_of history) → has_row history name ≡ true
@@ -271,16 +227,7 @@ pub data IsMoved (world : World) : History → Type 0 where
 
 -- the history after an input
 input-moved : (world : World) (input : Input) → (orchestrated world input).world.history ≡ moved_to world.history (moves world.history input)
-input-moved world input = by (moves world.history input)
-  where
-    answered : (next : World) (answer : Answer) → (by_answer next answer).world.history ≡ next.history
-    answered next (Sends None) = refl
-    answered next (Hears (heards.Taken None)) = refl
-    answered next answer = refl
-
-    by : (result : Result Moved OrchFault) → (by_result world result).world.history ≡ moved_to world.history result
-    by (Ok moved) = answered (with_history moved.items world) moved.answer
-    by (Err fault) = refl
+input-moved world input = grind arith
 
 -- so of each input
 by-input : (world : World) (input : Input) → IsMoved world (orchestrated world input).world.history

@@ -1,13 +1,13 @@
 -- What is so of a world after its orchestrator forgot a name.
-use Rattle.csi_world.proofs.Words.{◌≡◌, ◌⊎◌, ℕ, ◌<◌, List, [], ◌∷◌, map, Bool, true, false, cond, if◌then◌else◌, Option}
-use Rattle.csi_world.proofs.Words.{Some, None, option_map, find, IsTrue, ◌==◌, ◌&&◌, refl, sym, ◌∙◌, ap, subst, inl}
-use Rattle.csi_world.proofs.Words.{inr, ⊎_elim, arith, Number, Capability, Call, Party, Controller, Node, Reply, Status}
-use Rattle.csi_world.proofs.Words.{IsBefore, same_text, PluginThing, Exists, Attached, Staged, Published, HasId}
-use Rattle.csi_world.proofs.Words.{is_over, IsAmong, Volume, ControllerState, volume_with_id, No, Issued, touches}
-use Rattle.csi_world.proofs.Words.{is_doing, Item, Accepted, Forgotten, History, with_items, since, issued_in}
-use Rattle.csi_world.proofs.Words.{last_number, known, has_success, MayForget, World, node_state, with_history}
-use Rattle.csi_world.proofs.Lemmas.{and_parts, false≢true, or_cases, or_left, or_right, nat_tests, none-some, same_Some}
-use Rattle.csi_world.proofs.Lemmas.{same_text-tells, among-map, in-map, none_passes, none-from_map}
+use Rattle.csi_world.proofs.Words.{◌≡◌, ◌⊎◌, ℕ, ◌<◌, List, [], ◌∷◌, map, Bool, true, false, cond, if◌then◌else◌}
+use Rattle.csi_world.proofs.Words.{Option, Some, None, find, IsTrue, ◌==◌, ◌&&◌, refl, sym, ◌∙◌, ap, subst, inl, inr}
+use Rattle.csi_world.proofs.Words.{⊎_elim, arith, Number, Capability, Call, Party, Reply, Status, IsBefore, same_text}
+use Rattle.csi_world.proofs.Words.{PluginThing, Exists, Attached, Staged, Published, HasId, is_over, IsAmong, Volume}
+use Rattle.csi_world.proofs.Words.{ControllerState, volume_with_id, No, Issued, touches, is_doing, Item, Accepted}
+use Rattle.csi_world.proofs.Words.{Forgotten, History, with_items, since, issued_in, last_number, known, has_success}
+use Rattle.csi_world.proofs.Words.{MayForget, World, node_state, with_history}
+use Rattle.csi_world.proofs.Lemmas.{and_parts, false≢true, or_cases, or_left, or_right, nat_tests, none-some}
+use Rattle.csi_world.proofs.Lemmas.{same_Some, same_text-tells, among-map, in-map, none_passes, none-from_map}
 use Rattle.csi_types.specs.declared.call.Call.TheVariants as calls
 use Rattle.csi_controller.specs.Public.View as controllers
 use Rattle.csi_orchestrator.specs.declared.thing.Thing.TheVariants as things
@@ -48,11 +48,7 @@ earlier-session history last counted unused call among = by call.number (last_nu
 
 -- texts that differ
 differ : (a b : List ℕ) → same_text a b ≡ false → same_text b a ≡ false
-differ a b h = by (same_text b a) refl
-  where
-    by : (t : Bool) → same_text b a ≡ t → t ≡ false
-    by false e = refl
-    by true e = absurd (false≢true (sym h ∙ (same_text-tells a b).1 (sym ((same_text-tells b a).0 e))))
+differ a b h = grind (arith, false≢true, same_text-tells)
 
 module _ (name : List ℕ) (given : List GivenId) where
   -- the pairs once the name is forgotten
@@ -181,16 +177,7 @@ module _ (name : List ℕ) (given : List GivenId) where
 -- a call for its name's volume now of whether it is there makes one, or its volume isn't seen where the controller doesn't have it
 unseen-gone_now : (given : List GivenId) (controller : ControllerState) (name : List ℕ) (party : Party) (call : Call) (id : ℕ) → AreGiven given → IsOwnNow given name party call → is_plugin_thing (Exists name) (plugin_thing_at name party call) ≡ true
     → HasNow given name id → volume_with_id id controller ≡ None → (is_making call ≡ true) ⊎ (thing_seen controller party call ≡ None)
-unseen-gone_now given controller name Controller (calls.CreateVolume create required limit capabilities) id are own is has gone = inl refl
-unseen-gone_now given controller name Controller (calls.DeleteVolume other) id are own is has gone =
-    inr (ap (option_map (λ (volume : Volume). Exists volume.name)) (ap (λ n. volume_with_id n controller) (are.one_id name other id own has) ∙ gone))
-unseen-gone_now given controller name Controller (calls.ControllerPublishVolume other node capability readonly) id are own is has gone = absurd (false≢true is)
-unseen-gone_now given controller name Controller (calls.ControllerUnpublishVolume other node) id are own is has gone = absurd (false≢true is)
-unseen-gone_now given controller name (Node node) (calls.NodeStageVolume other capability) id are own is has gone = absurd (false≢true is)
-unseen-gone_now given controller name (Node node) (calls.NodeUnstageVolume other) id are own is has gone = absurd (false≢true is)
-unseen-gone_now given controller name (Node node) (calls.NodePublishVolume other target capability readonly) id are own is has gone = absurd (false≢true is)
-unseen-gone_now given controller name (Node node) (calls.NodeUnpublishVolume other target) id are own is has gone = absurd (false≢true is)
-unseen-gone_now given controller name party call id are own is has gone = absurd own
+unseen-gone_now given controller name party call id are own is has gone = grind (arith, false≢true)
 
 -- a world of which all is so that is kept of every world, and a name that may be forgotten
 module _ (laws : PluginLaws) (world : World) (right : IsRight world) (name : List ℕ) (may : MayForget world.history name) where

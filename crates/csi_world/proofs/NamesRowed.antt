@@ -1,11 +1,11 @@
 -- Which names have rows: each of which something is wanted, or for which a call was sent since it was forgotten. Of a name without a row no
 -- volume is known, and there are few with one.
 use Rattle.csi_world.proofs.Words.{◌≡◌, ◌⊎◌, ℕ, ◌<◌, ◌≤◌, List, [], ◌∷◌, length, find, Bool, true, false, cond, not}
-use Rattle.csi_world.proofs.Words.{Option, Some, None, ◌||◌, refl, sym, ◌∙◌, ap, subst, inl, inr, ⊎_elim, arith}
-use Rattle.csi_world.proofs.Words.{list_any, MAX_ROWS, Number, same_text, Exists, IsAmong, Thing, Yes, No, Maybe}
-use Rattle.csi_world.proofs.Words.{Issued, name_in, is_thing, touches, does, is_no, thing_of, Goal, Item, Started, Lost}
-use Rattle.csi_world.proofs.Words.{Forgotten, Sent, Accepted, Closed, Noted, History, with_items, names_of, with_name}
-use Rattle.csi_world.proofs.Words.{known, known_by, goal_of, has_row, has_success, is_success_of, issued_in, since}
+use Rattle.csi_world.proofs.Words.{Option, Some, None, ◌||◌, refl, sym, ◌∙◌, ap, subst, arith, list_any, MAX_ROWS}
+use Rattle.csi_world.proofs.Words.{Number, same_text, Exists, IsAmong, Thing, Yes, No, Maybe, Issued, touches, does}
+use Rattle.csi_world.proofs.Words.{Goal, Item, Started, Lost, Forgotten, Sent, Accepted, Closed, Noted, History}
+use Rattle.csi_world.proofs.Words.{with_items, names_of, with_name, known, known_by, goal_of, has_row, has_success}
+use Rattle.csi_world.proofs.Words.{is_success_of, issued_in, since}
 use Rattle.csi_world.proofs.Lemmas.{false≢true, none-some, same_text-tells, any-then, then-any, forgotten-follows}
 use Rattle.csi_world.proofs.Lemmas.{noted-follows}
 use Rattle.csi_orchestrator.proofs.RowViews.{told_by as view_of}
@@ -58,50 +58,21 @@ known-aside items item thing (Some call) quiet = ap (λ b. cond (not (b || has_s
 
 -- what is known of a thing is so still once a call of another was sent
 pub sent-other : (history : History) (issued : Issued) (thing : Thing) → touches thing issued ≡ false → known (with_items history (Sent issued ∷ [])) thing ≡ known history thing
-sent-other history issued thing other =
-    ap (λ b. known_by (Sent issued ∷ history.items) thing (cond b (Some issued) found)) other ∙ by found
-  where
-    found : Option Issued
-    found = find (touches thing) (calls_for thing history.items)
-
-    by : (o : Option Issued) → known_by (Sent issued ∷ history.items) thing o ≡ known_by history.items thing o
-    by None = refl
-    by (Some call) = refl
+sent-other history issued thing other = grind (arith, calls_for)
 
 -- a success that is told leaves as it is what is known not to be so
 pub still-gone : (items : List Item) (item : Item) (thing : Thing) (found : Option Issued) → known_by items thing found ≡ No → known_by (item ∷ items) thing found ≡ No
-still-gone items item thing None is = refl
-still-gone items item thing (Some call) is = by (has_success items call.number) refl is
-  where
-    more : has_success items call.number ≡ true → has_success (item ∷ items) call.number ≡ true
-    more h = let there = any-then (is_success_of call.number) items h in then-any (is_success_of call.number) (item ∷ items) there.0 (inr there.1) there.2
-
-    by : (b : Bool) → has_success items call.number ≡ b → cond (not b) Maybe (cond (does thing call) Yes No) ≡ No → cond (not (has_success (item ∷ items) call.number)) Maybe (cond (does thing call) Yes No) ≡ No
-    by true e is = ap (λ c. cond (not c) Maybe (cond (does thing call) Yes No)) (more e) ∙ is
-    by false e is = absurd (false≢true (ap is_no is))
+still-gone items item thing found is = grind (arith, any-then, then-any, false≢true)
 
 -- a call of a name says nothing of another's volume
 other-untouched : (issued : Issued) (name : List ℕ) → same_text issued.name name ≡ false → touches (things.Exists name) issued ≡ false
-other-untouched issued name differs = by (touches (things.Exists name) issued) refl
-  where
-    at : (o : Option Thing) → thing_of issued ≡ o → is_thing (things.Exists name) o ≡ true → issued.name ≡ name
-    at None e h = absurd (false≢true h)
-    at (Some thing) e h = sym (at-named issued.name issued.party issued.call thing e) ∙ ap name_in (sym (same-tells (things.Exists name) thing h))
-
-    by : (b : Bool) → touches (things.Exists name) issued ≡ b → b ≡ false
-    by false e = refl
-    by true e = absurd (false≢true (sym differs ∙ (same_text-tells issued.name name).1 (at (thing_of issued) refl e)))
+other-untouched issued name differs = grind (arith, false≢true, at-named, same-tells, same_text-tells)
 
 -- ---- item by item
 
 -- no more names than there is room for
 few-named : (name : List ℕ) (names : List (List ℕ)) → length names ≤ MAX_ROWS → (list_any (same_text name) names ≡ true) ⊎ (length names < MAX_ROWS) → length (with_name name names) ≤ MAX_ROWS
-few-named name names few fit = by (list_any (same_text name) names) refl fit
-  where
-    by : (b : Bool) → list_any (same_text name) names ≡ b → (b ≡ true) ⊎ (length names < MAX_ROWS) → length (cond b names (name ∷ names)) ≤ MAX_ROWS
-    by true e fit = few
-    by false e (inl h) = absurd (false≢true h)
-    by false e (inr less) = omega (arith, less)
+few-named name names few fit = grind (arith, false≢true)
 
 -- a name that has no row had none before, where it isn't forgotten
 had-none : (b r : Bool) → cond b true r ≡ false → r ≡ false
@@ -150,51 +121,17 @@ forgotten-rowed history name fit rowed =
 
 -- a call is sent
 sent-rowed : (history : History) (issued : Issued) → IsFit history (Sent issued) → AreRowed history → AreRowed (with_items history (Sent issued ∷ []))
-sent-rowed history issued fit rowed =
-    record {
-      wanted = rowed.wanted;
-      called = λ call among. ⊎_elim (λ e. ap (λ (c : Issued). has_row history c.name) e ∙ fit) (λ there. rowed.called call there) among;
-      gone = λ name none. sent-other history issued (things.Exists name) (other-untouched issued name (differs name none (same_text issued.name name) refl)) ∙ rowed.gone name none;
-      few = rowed.few;
-    }
-  where
-    differs : (name : List ℕ) → has_row history name ≡ false → (b : Bool) → same_text issued.name name ≡ b → b ≡ false
-    differs name none true e = absurd (false≢true (sym none ∙ ap (has_row history) (sym ((same_text-tells issued.name name).0 e)) ∙ fit))
-    differs name none false e = refl
+sent-rowed history issued fit rowed = grind (arith, sent-other, other-untouched, false≢true, same_text-tells)
 
 -- each item
 pub item-rowed : (history : History) (item : Item) → IsFit history item → AreRowed history → AreRowed (with_items history (item ∷ []))
 item-rowed history (Sent issued) fit rowed = sent-rowed history issued fit rowed
 item-rowed history (Noted name goal) fit rowed = noted-rowed history name goal fit rowed
 item-rowed history (Forgotten name) fit rowed = forgotten-rowed history name fit rowed
-item-rowed history (Accepted number status id) fit rowed =
-    record {
-      wanted = rowed.wanted;
-      called = rowed.called;
-      gone = λ name none. still-gone history.items (Accepted number status id) (things.Exists name) (find (touches (things.Exists name)) (calls_for (things.Exists name) history.items)) (rowed.gone name none);
-      few = rowed.few;
-    }
-item-rowed history (Started session nodes) fit rowed =
-    record {
-      wanted = rowed.wanted;
-      called = rowed.called;
-      gone = λ name none. known-aside history.items (Started session nodes) (things.Exists name) (find (touches (things.Exists name)) (calls_for (things.Exists name) history.items)) (λ number. refl) ∙ rowed.gone name none;
-      few = rowed.few;
-    }
-item-rowed history (Lost node) fit rowed =
-    record {
-      wanted = rowed.wanted;
-      called = rowed.called;
-      gone = λ name none. known-aside history.items (Lost node) (things.Exists name) (find (touches (things.Exists name)) (calls_for (things.Exists name) history.items)) (λ number. refl) ∙ rowed.gone name none;
-      few = rowed.few;
-    }
-item-rowed history (Closed number) fit rowed =
-    record {
-      wanted = rowed.wanted;
-      called = rowed.called;
-      gone = λ name none. known-aside history.items (Closed number) (things.Exists name) (find (touches (things.Exists name)) (calls_for (things.Exists name) history.items)) (λ n. refl) ∙ rowed.gone name none;
-      few = rowed.few;
-    }
+item-rowed history (Accepted number status id) fit rowed = grind (arith, still-gone, calls_for)
+item-rowed history (Started session nodes) fit rowed = grind (arith, known-aside, calls_for)
+item-rowed history (Lost node) fit rowed = grind (arith, known-aside, calls_for)
+item-rowed history (Closed number) fit rowed = grind (arith, known-aside, calls_for)
 
 -- each of these items is fit where it stands, the newest first
 abbrev pub AreFit : History → List Item → Type 0

@@ -1,12 +1,12 @@
 -- The rows of nodes: each is of another volume, and of a call that was sent to the node for it.
 use Rattle.csi_world.proofs.Words.{◌≡◌, ◌⊎◌, ℕ, ◌<◌, ◌≤◌, List, [], ◌∷◌, map, not, Bool, true, false, cond, Option}
-use Rattle.csi_world.proofs.Words.{Some, None, ◌==◌, refl, sym, ◌∙◌, ap, subst, inl, inr, ⊎_elim, is_some, Number, Call}
-use Rattle.csi_world.proofs.Words.{Party, Controller, Node, Body, kind_of, Config, Frame, stale_reply, same_text}
+use Rattle.csi_world.proofs.Words.{Some, None, ◌==◌, refl, sym, ◌∙◌, ap, subst, inl, inr, ⊎_elim, is_some, Number}
+use Rattle.csi_world.proofs.Words.{Call, Party, Controller, Node, Body, kind_of, Config, Frame, stale_reply, same_text}
 use Rattle.csi_world.proofs.Words.{same_party, IsAmong, EachTwo, Kept, Fenced, answered_only, unanswered, fenced_parts}
-use Rattle.csi_world.proofs.Words.{NodeState, AnsweredVolume, joined_node, staged_of, row_with_id, volume_of}
-use Rattle.csi_world.proofs.Words.{after_frames, Issued, issued_in, NodeAt, World, empty_world, node_id, new_node}
-use Rattle.csi_world.proofs.Words.{node_state, with_state, with_node, with_frame, answered_by, answered_by_node, Choice}
-use Rattle.csi_world.proofs.Words.{Sends, Answers, Joins, Loses, MayChoose, MayChooseAll, chosen, chosen_all}
+use Rattle.csi_world.proofs.Words.{NodeState, AnsweredVolume, joined_node, staged_of, volume_of, after_frames, Issued}
+use Rattle.csi_world.proofs.Words.{issued_in, NodeAt, World, empty_world, node_id, new_node, node_state, with_state}
+use Rattle.csi_world.proofs.Words.{with_node, with_frame, answered_by, answered_by_node, Choice, Sends, Answers, Joins}
+use Rattle.csi_world.proofs.Words.{Loses, MayChoose, MayChooseAll, chosen, chosen_all, arith}
 use Rattle.csi_world.proofs.Lemmas.{eqb-true, same_text-tells, among-either, among-filter, among-map, none_passes}
 use Rattle.csi_world.proofs.Lemmas.{two-append, two-filter, two-map, two-more, Carried, no_room, has_room, was_carried}
 use Rattle.csi_world.proofs.Lemmas.{kept_of, changed-rows, kept_in-id}
@@ -29,28 +29,11 @@ AreApart rows = EachTwo (λ (a b : AnsweredVolume). (a.id == b.id) ≡ false) ro
 
 -- so they are once a call is kept
 keep-apart : (volume : Option ℕ) (kept : Kept) (state : NodeState) → AreApart state.rows → AreApart (nodes.keep volume kept state).rows
-keep-apart None kept state apart = apart
-keep-apart (Some id) kept state apart = by (row_with_id id state) refl
-  where
-    Differ : AnsweredVolume → AnsweredVolume → Type 0
-    Differ a b = (a.id == b.id) ≡ false
-
-    by : (o : Option AnsweredVolume) → row_with_id id state ≡ o → AreApart (nodes.kept_rows id kept state.rows o)
-    by (Some row) e =
-        two-map (λ (a b : AnsweredVolume). (a.id == b.id) ≡ false) (nodes.kept_in id kept) state.rows
-        (two-more (λ (a b : AnsweredVolume). (a.id == b.id) ≡ false) (λ (a b : AnsweredVolume). ((nodes.kept_in id kept a).id == (nodes.kept_in id kept b).id) ≡ false) state.rows
-        (λ a b differ. (λ i. kept_in-id id kept a i == kept_in-id id kept b i) ∙ differ) apart)
-    by None e = two-append (λ (a b : AnsweredVolume). (a.id == b.id) ≡ false) state.rows (record { id = id; kept = kept }) apart (λ row among. none_passes (λ (r : AnsweredVolume). r.id == id) state.rows row e among)
+keep-apart volume kept state apart = grind (arith, two-map, two-more, kept_in-id, two-append, none_passes)
 
 -- and once a call is carried out
 carried-apart : (node : List ℕ) (state : NodeState) (number : Number) (call : Call) → AreApart state.rows → AreApart (nodes.carried_out node state number call (table.node_row state call)).state.rows
-carried-apart node state number call apart = by _ (was_carried node state number call)
-  where
-    by : (after : Fenced NodeState) → Carried node state number call after → AreApart after.state.rows
-    by _ (no_room full) = apart
-    by _ (has_room room) =
-        keep-apart (volume_of call) (kept_of state number call) (table.changed state (table.lifecycle_row state call).change)
-        (subst AreApart (sym (changed-rows state (table.lifecycle_row state call).change)) apart)
+carried-apart node state number call apart = grind (arith, was_carried, Carried, no_room, has_room, keep-apart, kept_of, changed-rows)
 
 -- whatever frames came
 pub apart-rows : (node : List ℕ) (session : ℕ) (frames : List Frame) → AreApart (after_frames node (joined_node session) frames).rows
@@ -86,35 +69,12 @@ more-called call issued node row called = record { call = called.call; among = i
 
 -- a row once a call is kept is one from before, or the call's
 keep-either : (volume : Option ℕ) (kept : Kept) (state : NodeState) (row : AnsweredVolume) → IsAmong row (nodes.keep volume kept state).rows → IsAmong row state.rows ⊎ ((row.kept ≡ kept) × (volume ≡ Some row.id))
-keep-either None kept state row among = inl among
-keep-either (Some id) kept state row among = by (row_with_id id state) among
-  where
-    new : (was : AnsweredVolume) → IsAmong was state.rows → row ≡ nodes.kept_in id kept was → (b : Bool) → (was.id == id) ≡ b → IsAmong row state.rows ⊎ ((row.kept ≡ kept) × (Some id ≡ Some row.id))
-    new was there is true same =
-        let now : row ≡ record was { kept = kept } = is ∙ ap (λ b. cond b (let r : AnsweredVolume = record was { kept = kept } in r) was) same in
-        inr (ap (λ (r : AnsweredVolume). r.kept) now, ap Some (sym (ap (λ (r : AnsweredVolume). r.id) now ∙ eqb-true was.id id same)))
-    new was there is false differ =
-        let now : row ≡ was = is ∙ ap (λ b. cond b (let r : AnsweredVolume = record was { kept = kept } in r) was) differ in
-        inl (subst (λ (r : AnsweredVolume). IsAmong r state.rows) (sym now) there)
-
-    by : (o : Option AnsweredVolume) → IsAmong row (nodes.kept_rows id kept state.rows o) → IsAmong row state.rows ⊎ ((row.kept ≡ kept) × (Some id ≡ Some row.id))
-    by (Some there) inside = let was = among-map (nodes.kept_in id kept) state.rows row inside in new was.0 was.1 was.2 (was.0.id == id) refl
-    by None inside =
-        ⊎_elim (λ there. inl there) (λ is. inr (ap (λ (r : AnsweredVolume). r.kept) is, ap Some (sym (ap (λ (r : AnsweredVolume). r.id) is))))
-        (among-either state.rows (record { id = id; kept = kept }) row inside)
+keep-either volume kept state row among = grind (arith, eqb-true, among-map, among-either)
 
 -- a sent call that is carried out
 carried-called : (issued : List Issued) (node : List ℕ) (state : NodeState) (one : Issued) → IsAmong one issued → one.party ≡ Node node → AreCalled issued node state
     → AreCalled issued node (nodes.carried_out node state one.number one.call (table.node_row state one.call)).state
-carried-called issued node state one sent to called = by _ (was_carried node state one.number one.call)
-  where
-    by : (after : Fenced NodeState) → Carried node state one.number one.call after → AreCalled issued node after.state
-    by _ (no_room full) = called
-    by _ (has_room room) = λ row among.
-        ⊎_elim
-        (λ there. called row (subst (λ (rows : List AnsweredVolume). IsAmong row rows) (changed-rows state (table.lifecycle_row state one.call).change) there))
-        (λ own. record { call = one; among = sent; to_node = to; for_volume = own.1; has_number = ap (λ (k : Kept). k.number) (sym own.0) })
-        (keep-either (volume_of one.call) (kept_of state one.number one.call) (table.changed state (table.lifecycle_row state one.call).change) row among)
+carried-called issued node state one sent to called = grind (arith, was_carried, Carried, no_room, has_room, changed-rows, keep-either, kept_of)
 
 -- a node got a frame that was sent to it
 node-called : (issued : List Issued) (node : List ℕ) (state : NodeState) (number : Number) (body : Body) → ((call : Call) → body ≡ bodies.Call call → ((one : Issued) × IsAmong one issued × (one.party ≡ Node node) × (one.number ≡ number) × (one.call ≡ call)) ⊎ (number.session < state.session))

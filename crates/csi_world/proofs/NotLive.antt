@@ -1,11 +1,11 @@
 -- What is so of a name that has an id and no live volume, since that was deleted: its id was heard, so that no CreateVolume is sent for it
 -- until the name is forgotten, and those that were sent are spent. So no volume of that name is made before that; and no call that was sent
 -- before a name was forgotten makes or deletes a volume of it after that.
-use Rattle.csi_world.proofs.Words.{◌≡◌, ◌⊎◌, ℕ, List, ◌∷◌, Bool, true, false, Some, None, option_map, is_some, IsTrue}
-use Rattle.csi_world.proofs.Words.{refl, sym, ◌∙◌, ap, subst, inl, inr, ⊎_elim, Call, Kind, Party, Controller, Node}
-use Rattle.csi_world.proofs.Words.{Reply, kind_of, PluginView, IsClosed, Frame, PluginThing, Exists, ThingForm, HasId}
-use Rattle.csi_world.proofs.Words.{asked, has_id_by_rule, IsAmong, Issued, is_doing, Item, Sent, History, issued_in}
-use Rattle.csi_world.proofs.Words.{IsGuarded, Number, Volume, ControllerState, volume_with_id}
+use Rattle.csi_world.proofs.Words.{◌≡◌, ◌⊎◌, ℕ, List, ◌∷◌, Bool, true, false, Some, None, is_some, IsTrue, refl, sym}
+use Rattle.csi_world.proofs.Words.{◌∙◌, ap, subst, inl, inr, ⊎_elim, Call, Kind, Party, Reply, kind_of, PluginView}
+use Rattle.csi_world.proofs.Words.{IsClosed, Frame, PluginThing, Exists, ThingForm, HasId, asked, has_id_by_rule}
+use Rattle.csi_world.proofs.Words.{IsAmong, Issued, is_doing, Item, Sent, History, issued_in, IsGuarded, Number}
+use Rattle.csi_world.proofs.Words.{ControllerState, arith}
 use Rattle.csi_world.proofs.Lemmas.{false≢true, none-some, same_text-tells, none-from_map}
 use Rattle.csi_types.specs.declared.call.Call.TheVariants as calls
 use Rattle.csi_controller.specs.Public.View as controllers
@@ -28,26 +28,11 @@ AreEnded given items view = (name : List ℕ) (id : ℕ) → HasNow given name i
 
 -- a call of whether a volume is there is for its name
 pub exists-named : (name other : List ℕ) (party : Party) (c : Call) → is_plugin_thing (Exists name) (plugin_thing_at other party c) ≡ true → other ≡ name
-exists-named name other party (calls.CreateVolume create required limit capabilities) of = sym ((same_text-tells name other).0 of)
-exists-named name other party (calls.DeleteVolume id) of = sym ((same_text-tells name other).0 of)
-exists-named name other party (calls.ControllerPublishVolume id node capability readonly) of = absurd (false≢true of)
-exists-named name other party (calls.ControllerUnpublishVolume id node) of = absurd (false≢true of)
-exists-named name other (Node here) (calls.NodeStageVolume id capability) of = absurd (false≢true of)
-exists-named name other (Node here) (calls.NodeUnstageVolume id) of = absurd (false≢true of)
-exists-named name other (Node here) (calls.NodePublishVolume id target capability readonly) of = absurd (false≢true of)
-exists-named name other (Node here) (calls.NodeUnpublishVolume id target) of = absurd (false≢true of)
-exists-named name other Controller c of = absurd (false≢true of)
+exists-named name other party c of = grind (arith, same_text-tells, false≢true)
 
 -- a call that asks for a volume with an id makes one
 pub asks-id : (c : Call) (reply : Reply) (id : ℕ) → asked c reply ≡ Some (HasId id) → is_making c ≡ true
-asks-id (calls.CreateVolume create required limit capabilities) reply id e = refl
-asks-id (calls.DeleteVolume volume) reply id e = absurd (none-some (HasId id) e)
-asks-id (calls.ControllerPublishVolume volume node capability readonly) reply id e = cc
-asks-id (calls.ControllerUnpublishVolume volume node) reply id e = absurd (none-some (HasId id) e)
-asks-id (calls.NodeStageVolume volume capability) reply id e = cc
-asks-id (calls.NodeUnstageVolume volume) reply id e = absurd (none-some (HasId id) e)
-asks-id (calls.NodePublishVolume volume target capability readonly) reply id e = cc
-asks-id (calls.NodeUnpublishVolume volume target) reply id e = absurd (none-some (HasId id) e)
+asks-id c reply id e = grind (arith, none-some)
 
 -- what makes a volume brings it about
 making-does : (c : Call) → is_making c ≡ true → is_doing c ≡ true
@@ -81,13 +66,7 @@ ended-seen given items view after held spent ended name id has none =
 pub ended-noted : (given more : List GivenId) (items : List Item) (item : Item) (view : PluginView) → issued_in (item ∷ items) ≡ issued_in items
     → ((name : List ℕ) (id : ℕ) → HasNow more name id → HasNow given name id × (calls_since (Exists name) (item ∷ items) ≡ calls_since (Exists name) items))
     → AreEnded given items view → AreEnded more (item ∷ items) view
-ended-noted given more items item view same had ended name id has none =
-    let before = had name id has in
-    let old = ended name id before.0 none in
-    record {
-      known = known-later items (item ∷ items) name (λ c among. subst (IsAmong c) (sym before.1) among) (λ i among. inr among) old.known;
-      spent = λ call among named making. old.spent call (subst (IsAmong call) same among) named making;
-    }
+ended-noted given more items item view same had ended name id has none = grind (arith, known-later)
 
 -- a sent call that a plugin got, and what became of the things
 module _ (items : List Item) (frames : List Frame) (old new : PluginView) (call : Issued) (thing : PluginThing) (kind : Kind) (reply : Reply) (effect : IsEffect (issued_in items) frames old new call thing kind reply) where
@@ -148,17 +127,7 @@ OldAreSpent items controller view =
 -- a call whose volume the controller doesn't have finds none later
 pub unseen-stays : (old new : ControllerState) (given : List GivenId) (name : List ℕ) (party : Party) (call : Call) → controllers.KeepsNames old new → AreOf old given → IsOwnOld given name party call
     → is_plugin_thing (Exists name) (plugin_thing_at name party call) ≡ true → thing_seen old party call ≡ None → thing_seen new party call ≡ None
-unseen-stays old new given name Controller (calls.CreateVolume create required limit capabilities) keeps of own is none = absurd (none-some (Exists create) (sym none))
-unseen-stays old new given name Controller (calls.DeleteVolume id) keeps of own is none =
-    let gone = none-from_map (λ (volume : Volume). Exists volume.name) (volume_with_id id old) none in
-    ap (option_map (λ (volume : Volume). Exists volume.name)) (stays-gone old new given (record { name = name; id = id; now = false }) keeps of own gone)
-unseen-stays old new given name Controller (calls.ControllerPublishVolume id node capability readonly) keeps of own is none = absurd (false≢true is)
-unseen-stays old new given name Controller (calls.ControllerUnpublishVolume id node) keeps of own is none = absurd (false≢true is)
-unseen-stays old new given name (Node node) (calls.NodeStageVolume id capability) keeps of own is none = absurd (false≢true is)
-unseen-stays old new given name (Node node) (calls.NodeUnstageVolume id) keeps of own is none = absurd (false≢true is)
-unseen-stays old new given name (Node node) (calls.NodePublishVolume id target capability readonly) keeps of own is none = absurd (false≢true is)
-unseen-stays old new given name (Node node) (calls.NodeUnpublishVolume id target) keeps of own is none = absurd (false≢true is)
-unseen-stays old new given name party call keeps of own is none = absurd own
+unseen-stays old new given name party call keeps of own is none = grind (arith, none-some, none-from_map, stays-gone, false≢true)
 
 -- so it is with all of them after a plugin got a call
 pub old-answered : (items : List Item) (frames : List Frame) (given : List GivenId) (old_controller new_controller : ControllerState) (old new : PluginView) → Named items frames given → controllers.KeepsNames old_controller new_controller

@@ -28,9 +28,7 @@ on-first old world name first own shows =
 
 -- where nothing is to be delivered, nothing changes
 none-on : (more : ℕ) (way : OnItsWay) (name : List ℕ) (place : ℕ) → ends_at way.world name place ≡ true → delivered_on more way name place ≡ way
-none-on zero way name place ends = refl
-none-on (suc more) way name place ends =
-    ap (λ b. cond b way (delivered_on more (record { world = (delivered way.world (frame_numbered way.world (suc place))).world; events = way.events + 1 }) name (suc place))) ends
+none-on more way name place ends = grind arith
 
 -- all is delivered then
 all-on : (old : WorldParts) (start : OnItsWay) (name : List ℕ) (first count : ℕ) (shown : WorldParts) (is : IsOn old start name first count shown) → delivered_on is.more is.way name is.place ≡ is.way
@@ -47,14 +45,7 @@ on-ended old start name first count shown ends is =
 -- so it is once there were twelve
 pub on-twelve : (old : WorldParts) (start : OnItsWay) (name : List ℕ) (first count : ℕ) (shown : WorldParts) → 12 ≤ count
     → IsOn old start name first count shown → CameOn old shown (delivered_on 12 start name first) (count + 1)
-on-twelve old start name first count shown many is = all-on old start name first count shown is (by is.more is.left)
-  where
-    by : (more : ℕ) → more + count ≡ 12 → delivered_on more is.way name is.place ≡ is.way
-    by zero left = refl
-    by (suc more) left = absurd (none left)
-      where
-        none : suc more + count ≡ 12 → ⊥
-        none left = omega (arith, left, many)
+on-twelve old start name first count shown many is = grind (arith, all-on)
 
 -- one more is delivered
 pub on-more : (old : WorldParts) (start : OnItsWay) (name : List ℕ) (first count number : ℕ) (outcome : Outcome) (mid new : WorldParts) → count < 12 → number ≡ first + count + 1
@@ -105,14 +96,7 @@ on-more old start name first count number outcome mid new few numbered goes came
 -- where nothing is wanted, nothing happens
 pub nothing-on : (shown : WorldParts) (world : World) (name : List ℕ) → ((history : History) → Shows shown.orchestrator history → false ≡ is_some (goal_of history name)) → IsSoundWorld shown → ShowsWorld shown world
     → CameOn shown shown (settling_way world name) 0
-nothing-on shown world name unwanted own shows =
-    subst (λ way. CameOn shown shown way 0) (sym none) (record { outcomes = refl; own = own; world = shows; counted = refl })
-  where
-    still : OnItsWay
-    still = record { world = world; events = 0 }
-
-    none : settling_way world name ≡ still
-    none = ap (λ b. cond (b || not (has_row world.history name)) still (brought_on world name)) (rest-wanted world name ∙ ap not (sym (unwanted world.history shows.orchestrator)))
+nothing-on shown world name unwanted own shows = grind (arith, rest-wanted)
 
 -- a timeout, and then the deliveries
 pub all-went : (old mid new : WorldParts) (world : World) (name : List ℕ) (first count : ℕ) (outcome : Outcome) → ((history : History) → Shows old.orchestrator history → true ≡ is_some (goal_of history name))

@@ -1,19 +1,17 @@
 -- What a plugin answers an open call: what it keeps for its volume is that call, or one before it, and it heard of no later session. So the fence lets the
 -- call through, or gives what is kept.
 use Rattle.csi_world.proofs.Words.{◌≡◌, ◌⊎◌, ℕ, ◌≤◌, List, [], ◌∷◌, Bool, true, false, cond, Option, Some, None}
-use Rattle.csi_world.proofs.Words.{option_map, is_some, refl, sym, ◌∙◌, ap, subst, inl, inr, ⊎_elim, ◌==◌, Number, Call}
-use Rattle.csi_world.proofs.Words.{Party, Controller, Node, Body, kind_of, Config, Frame, IsBefore, reply_frame}
-use Rattle.csi_world.proofs.Words.{same_text, same_number, same_party, IsAmong, EachTwo, Kept, is_spent, is_over}
-use Rattle.csi_world.proofs.Words.{begins, Fenced, Machine, in_session, answered_only, judged, fenced_call, answered_in}
-use Rattle.csi_world.proofs.Words.{unanswered, fenced_parts, Volume, ControllerState, is_row_for, row_for}
-use Rattle.csi_world.proofs.Words.{volume_with_id, NodeState, AnsweredVolume, volume_of, row_of_volume, row_with_id}
-use Rattle.csi_world.proofs.Words.{staged_of, Issued, Item, Started, Sent, Accepted, Closed, issued_in, open_in}
-use Rattle.csi_world.proofs.Words.{is_aborted}
+use Rattle.csi_world.proofs.Words.{option_map, is_some, refl, sym, ◌∙◌, ap, subst, inl, inr, ⊎_elim, ◌==◌, Number}
+use Rattle.csi_world.proofs.Words.{Call, Party, Node, Body, kind_of, Config, Frame, IsBefore, reply_frame, same_text}
+use Rattle.csi_world.proofs.Words.{same_number, IsAmong, EachTwo, Kept, is_spent, is_over, begins, Fenced, Machine}
+use Rattle.csi_world.proofs.Words.{in_session, answered_only, judged, fenced_call, answered_in, fenced_parts, Volume}
+use Rattle.csi_world.proofs.Words.{ControllerState, is_row_for, row_for, volume_with_id, NodeState, AnsweredVolume}
+use Rattle.csi_world.proofs.Words.{volume_of, row_of_volume, row_with_id, staged_of, Issued, Item, Started, Sent}
+use Rattle.csi_world.proofs.Words.{Accepted, Closed, issued_in, open_in, is_aborted, arith}
 use Rattle.csi_world.proofs.Lemmas.{eqb-true, eq-eqb, false≢true, true≢false, le-ltb, none-some, same_Some}
 use Rattle.csi_world.proofs.Lemmas.{same_text-tells, same_number-tells, each_of, among-filter, among-find, find-passes}
 use Rattle.csi_world.proofs.Lemmas.{Judgement, was_over, was_fresh, was_repeated, was_stale, was_judged, IsOrderly}
 use Rattle.csi_world.proofs.Lemmas.{is_with_id, unless-some}
-use Rattle.csi_types.specs.declared.call.Call.TheVariants as calls
 use Rattle.csi_types.specs.declared.frame.Body.TheVariants as bodies
 use Rattle.csi_fence.specs.declared.fence.Verdict.TheVariants.{Stale, Repeated, Fresh}
 use Rattle.csi_controller.specs.Model.Fenced as controllers
@@ -75,35 +73,12 @@ module _ {State : Type 0} (machine : Machine State) (state : State) (number : Nu
 
 -- a call by id is for a volume that has its name
 has-name : (given : List GivenId) (name : List ℕ) (party : Party) (call : Call) (id : ℕ) → IsOwn given name party call → volume_of call ≡ Some id → HasName given name id
-has-name given name Controller (calls.DeleteVolume own) id has is = subst (HasName given name) (same_Some own id is) has
-has-name given name Controller (calls.ControllerPublishVolume own node capability readonly) id has is = subst (HasName given name) (same_Some own id is) has
-has-name given name Controller (calls.ControllerUnpublishVolume own node) id has is = subst (HasName given name) (same_Some own id is) has
-has-name given name (Node node) (calls.NodeStageVolume own capability) id has is = subst (HasName given name) (same_Some own id is) has
-has-name given name (Node node) (calls.NodeUnstageVolume own) id has is = subst (HasName given name) (same_Some own id is) has
-has-name given name (Node node) (calls.NodePublishVolume own target capability readonly) id has is = subst (HasName given name) (same_Some own id is) has
-has-name given name (Node node) (calls.NodeUnpublishVolume own target) id has is = subst (HasName given name) (same_Some own id is) has
-has-name given name Controller (calls.CreateVolume create required limit capabilities) id has is = absurd (none-some id is)
-has-name given name party call id has is = absurd has
+has-name given name party call id has is = grind (arith, HasName, same_Some, own, none-some)
 
 -- the volume of a call's row has the call's name
 row-name : (given : List GivenId) (state : ControllerState) → AreGiven given → AreOf state given → (name : List ℕ) (party : Party) (call : Call) (volume : Volume) → IsOwn given name party call
     → is_row_for call volume ≡ true → volume_with_id volume.id state ≡ Some volume → volume.name ≡ name
-row-name given state are of name Controller (calls.CreateVolume create required limit capabilities) volume own row found = (same_text-tells volume.name create).0 row ∙ own
-row-name given state are of name Controller (calls.DeleteVolume id) volume own row found =
-    id-named state given name volume.id volume are of (subst (HasName given name) (sym (eqb-true volume.id id row)) own) found
-row-name given state are of name Controller (calls.ControllerPublishVolume id node capability readonly) volume own row found =
-    id-named state given name volume.id volume are of (subst (HasName given name) (sym (eqb-true volume.id id row)) own) found
-row-name given state are of name Controller (calls.ControllerUnpublishVolume id node) volume own row found =
-    id-named state given name volume.id volume are of (subst (HasName given name) (sym (eqb-true volume.id id row)) own) found
-row-name given state are of name (Node node) (calls.NodeStageVolume id capability) volume own row found =
-    id-named state given name volume.id volume are of (subst (HasName given name) (sym (eqb-true volume.id id row)) own) found
-row-name given state are of name (Node node) (calls.NodeUnstageVolume id) volume own row found =
-    id-named state given name volume.id volume are of (subst (HasName given name) (sym (eqb-true volume.id id row)) own) found
-row-name given state are of name (Node node) (calls.NodePublishVolume id target capability readonly) volume own row found =
-    id-named state given name volume.id volume are of (subst (HasName given name) (sym (eqb-true volume.id id row)) own) found
-row-name given state are of name (Node node) (calls.NodeUnpublishVolume id target) volume own row found =
-    id-named state given name volume.id volume are of (subst (HasName given name) (sym (eqb-true volume.id id row)) own) found
-row-name given state are of name party call volume own row found = absurd own
+row-name given state are of name party call volume own row found = grind (arith, same_text-tells, own, id-named, HasName, eqb-true)
 
 -- ---- what an open call is answered
 
@@ -124,11 +99,7 @@ AnswersPlain fenced = IsPlainReply fenced.reply
 -- a plugin that isn't asked answers nothing
 pub parts-plain : {State : Type 0} (machine : Machine State) (state : State) (number : Number) (party : Party) (call : Call) → AnswersPlain (answered_in machine state number call)
     → AnswersPlain (fenced_parts machine state number party (bodies.Call call))
-parts-plain machine state number party call plain = by (same_party party machine.party)
-  where
-    by : (b : Bool) → AnswersPlain (cond b (answered_in machine state number call) (unanswered state))
-    by true = plain
-    by false = tt
+parts-plain machine state number party call plain = grind arith
 
 -- a session that isn't later than a number's leaves it
 not-over : (session : ℕ) (number : Number) → session ≤ number.session → is_over session number ≡ false
@@ -249,28 +220,8 @@ IsNumbered number (Some frame) = frame.number ≡ number
 -- whichever it is
 pub answer-numbered : {State : Type 0} (machine : Machine State) (state : State) (number : Number) (party : Party) (call : Call)
     → ((now : State) → IsNumbered number (machine.carried_out now number call).reply) → IsNumbered number (fenced_parts machine state number party (bodies.Call call)).reply
-answer-numbered {State} machine state number party call carries = by (same_party party machine.party)
-  where
-    judged-so : (after : Fenced State) → Judgement machine state number call after → IsNumbered number after.reply
-    judged-so _ (was_over over) = refl
-    judged-so _ (was_fresh not_over fresh) = carries (in_session machine number state)
-    judged-so _ (was_repeated kept not_over is spent same) = refl
-    judged-so _ (was_stale kept not_over is spent) = refl
-
-    by : (b : Bool) → IsNumbered number (cond b (answered_in machine state number call) (unanswered state)).reply
-    by true = judged-so (answered_in machine state number call) (was_judged machine state number call)
-    by false = tt
+answer-numbered {State} machine state number party call carries = grind (arith, Judgement, was_over, was_fresh, was_repeated, was_stale, was_judged)
 
 -- the answer of a node's table is
 pub node-numbered : (node : List ℕ) (number : Number) (call : Call) (now : NodeState) → IsNumbered number ((nodes.node_at node).carried_out now number call).reply
-node-numbered node number call now = by (node_table.has_no_room now call)
-  where
-    answer : Frame
-    answer = reply_frame number (Node node) (kind_of call) (node_table.node_row now call).reply
-
-    by : (b : Bool)
-        → IsNumbered number
-        (cond b (let f : Fenced NodeState = record { reply = Some answer; state = now } in f)
-        (let f : Fenced NodeState = record { reply = Some answer; state = nodes.keep (volume_of call) (record { number = number; kind = kind_of call; reply = (node_table.node_row now call).reply }) (node_table.changed now (node_table.node_row now call).change) } in f)).reply
-    by true = refl
-    by false = refl
+node-numbered node number call now = grind arith

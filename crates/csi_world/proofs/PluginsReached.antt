@@ -1,12 +1,11 @@
 -- All is so of the controller's state of a world that each frame and each session keeps, its nodes are in states that frames lead to, and nodes of one
 -- id are alike.
 use Rattle.csi_world.proofs.Words.{◌≡◌, ◌⊎◌, ℕ, List, [], ◌∷◌, ◌++◌, map, Bool, true, false, cond, not, Option, Some}
-use Rattle.csi_world.proofs.Words.{None, option_map, find, refl, sym, ◌∙◌, ap, subst, inl, inr, AllByRecursion, Party}
-use Rattle.csi_world.proofs.Words.{◌<◌, ◌==◌, ◌&&◌, IsExclusiveState, Volume}
-use Rattle.csi_world.proofs.Words.{Controller, Node, Config, Frame, IsAmong, same_text, ControllerState}
-use Rattle.csi_world.proofs.Words.{NodeState, joined_node, after_frames, History, NodeAt, World}
-use Rattle.csi_world.proofs.Words.{new_node, node_id, empty_world, node_state, with_state, with_node, with_new_node}
-use Rattle.csi_world.proofs.Words.{without_node, with_frame, answered_by_node, answered_by, answered_by_plugin}
+use Rattle.csi_world.proofs.Words.{None, option_map, find, refl, sym, ◌∙◌, ap, inl, inr, AllByRecursion, ◌<◌}
+use Rattle.csi_world.proofs.Words.{IsExclusiveState, Config, Frame, IsAmong, same_text, ControllerState, NodeState}
+use Rattle.csi_world.proofs.Words.{joined_node, after_frames, History, NodeAt, World, new_node, node_id, empty_world}
+use Rattle.csi_world.proofs.Words.{node_state, with_state, with_node, with_new_node, without_node, with_frame}
+use Rattle.csi_world.proofs.Words.{answered_by_plugin, arith}
 use Rattle.csi_world.proofs.Lemmas.{false≢true, none-some, same_Some, each_of, among-either, among-find, among-kept}
 use Rattle.csi_world.proofs.Lemmas.{among-map, some-found, each-append_one, each-filter, none-from_map, some-from_map}
 use Rattle.csi_world.proofs.Lemmas.{find-filter, find-filter_not, find-map, find-passes, map-same, same_text-tells}
@@ -58,15 +57,7 @@ controller-begun session state later is =
 
 -- names and ids belong together there
 pub regular-named : (state : ControllerState) → IsRegular state → controllers.AreNamed state
-regular-named state is = record {
-  by_id = λ name volume found. named_by_id state name volume is.orderly found;
-  by_name = λ id volume found. with_id_by_name state id volume is.orderly found;
-  live = λ name volume found. is_named state name volume is.orderly (among-find (λ (v : Volume). same_text v.name name && v.is_live) state.volumes volume found)
-      (and_parts (same_text volume.name name) volume.is_live (find-passes (λ (v : Volume). same_text v.name name && v.is_live) state.volumes volume found)).0;
-  live_id = λ id volume found. live_with_id state id volume is.orderly found;
-  given = λ id volume found. subst (λ n. n < state.next_id) (eqb-true volume.id id (find-passes (λ (v : Volume). v.id == id) state.volumes volume found))
-      (is.orderly volume (among-find (λ (v : Volume). v.id == id) state.volumes volume found)).given;
-}
+regular-named state is = grind (arith, named_by_id, with_id_by_name, is_named, among-find, and_parts, find-passes, live_with_id, eqb-true)
 
 -- the node that is found
 pub found-at : (id : List ℕ) (world : World) (state : NodeState) → node_state id world ≡ Some state → (at : NodeAt) × IsAmong at world.nodes × (at.id ≡ id) × (at.state ≡ state)
@@ -85,18 +76,12 @@ node-of-frames world id state reached h =
 
 -- a node after another state of one node
 with_state-id : (id other : List ℕ) (state : NodeState) (at : NodeAt) → same_text (with_state id state at).id other ≡ same_text at.id other
-with_state-id id other state at = by (same_text at.id id)
-  where
-    by : (b : Bool) → same_text (cond b (let n : NodeAt = record at { state = state } in n) at).id other ≡ same_text at.id other
-    by true = refl
-    by false = refl
+with_state-id id other state at = grind arith
 
 -- another state of one node leaves what a node of another id knows
 state-other : (id other : List ℕ) (state : NodeState) (o : Option NodeAt) → same_text other id ≡ false → ((at : NodeAt) → o ≡ Some at → at.id ≡ other)
     → option_map (λ (n : NodeAt). n.state) (option_map (with_state id state) o) ≡ option_map (λ (n : NodeAt). n.state) o
-state-other id other state None differs is = refl
-state-other id other state (Some at) differs is =
-    ap (λ b. Some (cond b (let n : NodeAt = record at { state = state } in n) at).state) (ap (λ n. same_text n id) (is at refl) ∙ differs)
+state-other id other state o differs is = grind arith
 
 -- so it is in a world
 pub node_state-other : (id other : List ℕ) (state : NodeState) (world : World) → same_text other id ≡ false → node_state other (with_node id state world) ≡ node_state other world
@@ -150,14 +135,7 @@ node-next world id state frame reached h =
 
 -- a node that stays as it is
 pub with_node-same : (world : World) (id : List ℕ) (state : NodeState) → IsReached world → node_state id world ≡ Some state → with_node id state world ≡ world
-with_node-same world id state reached h =
-    ap (λ (ns : List NodeAt). record world { nodes = ns }) (map-same (with_state id state) world.nodes (λ at among. by at among (same_text at.id id) refl))
-  where
-    by : (at : NodeAt) → IsAmong at world.nodes → (b : Bool) → same_text at.id id ≡ b → cond b (let n : NodeAt = record at { state = state } in n) at ≡ at
-    by at among true e =
-        let is : state ≡ at.state = same_Some state at.state (sym h ∙ ap (λ i. node_state i world) (sym ((same_text-tells at.id id).0 e)) ∙ reached.alike at among) in
-        ap (λ (s : NodeState). let n : NodeAt = record at { state = s } in n) is
-    by at among false e = refl
+with_node-same world id state reached h = grind (arith, map-same, same_Some, same_text-tells)
 
 -- at first
 new_nodes : (ids : List (List ℕ)) → AllByRecursion IsNodeOfFrames (map (new_node 0) ids)
@@ -195,13 +173,7 @@ joined-other session id other world state h =
 
 -- where a node isn't there, and doesn't join, it isn't there then
 pub joined-none : (session : ℕ) (id other : List ℕ) (world : World) → node_state other world ≡ None → node_state other (with_new_node session id world) ≡ cond (same_text id other) (Some (joined_node session)) None
-joined-none session id other world none =
-    let p : NodeAt → Bool = λ n. same_text n.id other in
-    ap (option_map (λ (n : NodeAt). n.state)) (find-behind p world.nodes (new_node session id ∷ []) (none-from_map (λ (n : NodeAt). n.state) (find p world.nodes) none)) ∙ by (same_text id other)
-  where
-    by : (b : Bool) → option_map (λ (n : NodeAt). n.state) (cond b (Some (new_node session id)) None) ≡ cond b (Some (joined_node session)) None
-    by true = refl
-    by false = refl
+joined-none session id other world none = grind (arith, find-behind, none-from_map)
 
 -- the node that joins has done nothing
 pub joined-same : (session : ℕ) (id : List ℕ) (world : World) → node_state id world ≡ None → node_state id (with_new_node session id world) ≡ Some (joined_node session)
@@ -235,18 +207,7 @@ lost-same id world = ap (option_map (λ (n : NodeAt). n.state)) (find-filter_not
 
 -- the plugins are in such states then
 pub lost-reached : (id : List ℕ) (world : World) → IsReached world → IsReached (without_node id world)
-lost-reached id world reached =
-    record {
-      controller = reached.controller;
-      nodes = each-filter IsNodeOfFrames (λ (n : NodeAt). not (same_text n.id id)) world.nodes reached.nodes;
-      alike = λ at among.
-          let kept = among-kept (λ (n : NodeAt). not (same_text n.id id)) world.nodes at among in
-          lost-other id at.id world (not-true (same_text at.id id) kept.1) ∙ reached.alike at kept.0;
-    }
-  where
-    not-true : (b : Bool) → not b ≡ true → b ≡ false
-    not-true true h = absurd (false≢true h)
-    not-true false h = refl
+lost-reached id world reached = grind (arith, each-filter, among-kept, lost-other, false≢true)
 
 -- what a plugin does is none of the orchestrator's
 with_frame-history : (reply : Option Frame) (world : World) → (with_frame reply world).history ≡ world.history
@@ -255,12 +216,4 @@ with_frame-history (Some frame) world = refl
 
 -- a plugin's answer leaves the orchestrator's history
 pub answered-history : (world : World) (frame : Frame) → (answered_by_plugin world frame).history ≡ world.history
-answered-history world frame = by frame.party
-  where
-    at_node : (id : List ℕ) (o : Option NodeState) → (answered_by_node id world frame o).history ≡ world.history
-    at_node id None = refl
-    at_node id (Some state) = with_frame-history (node.fenced id state frame).reply (with_node id (node.fenced id state frame).state world)
-
-    by : (party : Party) → (answered_by world frame party).history ≡ world.history
-    by Controller = with_frame-history (controller.fenced world.config world.controller frame).reply (record world { controller = (controller.fenced world.config world.controller frame).state })
-    by (Node id) = at_node id (node_state id world)
+answered-history world frame = grind (arith, with_frame-history)

@@ -1,7 +1,7 @@
 -- The nodes of a world whose orchestrator is made of what its plugins keep: those that are given, their sessions raised.
-use Rattle.csi_world.proofs.Words.{◌≡◌, ℕ, Bool, true, false, cond, List, [], ◌∷◌, ◌++◌, map, filter, refl, sym, ◌∙◌, ap, subst, list_any}
-use Rattle.csi_world.proofs.Words.{None, same_text, Config, config_fault, NodeParts, History, Shows, IsWellFormed}
-use Rattle.csi_world.proofs.Words.{World, NodeAt, WorldParts, ShowsWorld, AreNodesShown, has_same_id, IsSoundWorld}
+use Rattle.csi_world.proofs.Words.{◌≡◌, ℕ, Bool, true, false, cond, List, [], ◌∷◌, ◌++◌, map, filter, refl, sym, ◌∙◌}
+use Rattle.csi_world.proofs.Words.{ap, subst, list_any, same_text, NodeParts, History, Shows, IsWellFormed, World}
+use Rattle.csi_world.proofs.Words.{NodeAt, WorldParts, ShowsWorld, AreNodesShown, has_same_id, IsSoundWorld, arith}
 use Rattle.csi_orchestrator.specs.Model.Shown.{OrchestratorParts}
 use Rattle.csi_world.proofs.Lemmas.{or_parts}
 use Rattle.csi_world.specs.Private.Recovering.{IsRaised, HasRecovered}
@@ -92,21 +92,8 @@ raised-apart given session (o ∷ os) news apart are = by (λ ns so. raised-apar
 -- it is the recovered world
 pub recovered-shows : (session : ℕ) (given : List (List ℕ)) (made : OrchestratorParts) (old new : WorldParts) (world : World) (history : History) → HasRecovered session given made old new → ShowsWorld old world
     → Shows made history → IsWellFormed history → ShowsWorld new (recovered_world session given history world)
-recovered-shows session given made old new world history has shows agrees form =
-    record {
-      config = has.config ∙ shows.config;
-      frames = has.frames ∙ shows.frames;
-      controller = has.controller world.controller shows.controller;
-      nodes = raised-shown given session old.nodes new.nodes world.nodes shows.nodes has.nodes;
-      orchestrator = subst (λ (parts : OrchestratorParts). Shows parts history) (sym has.orchestrator) agrees;
-      form = form;
-      own_config = has.own_config ∙ shows.own_config ∙ sym has.config;
-    }
+recovered-shows session given made old new world history has shows agrees form = grind (arith, raised-shown)
 
 -- it is sound
 pub recovered-sound : (session : ℕ) (given : List (List ℕ)) (made : OrchestratorParts) (old new : WorldParts) → HasRecovered session given made old new → IsSoundWorld old → IsSoundWorld new
-recovered-sound session given made old new has sound =
-    record {
-      apart = raised-apart given session old.nodes new.nodes sound.apart has.nodes;
-      fit = subst (λ (config : Config). config_fault config.greatest config.nodes ≡ None) (sym has.config) sound.fit;
-    }
+recovered-sound session given made old new has sound = grind (arith, raised-apart)

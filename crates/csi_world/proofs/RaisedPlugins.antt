@@ -1,9 +1,8 @@
 -- Plugins whose sessions were raised: a call that does nothing but begin the session would do the same.
 use Rattle.csi_world.proofs.Words.{◌≡◌, ℕ, ◌<◌, ◌≤◌, List, [], ◌∷◌, ◌++◌, cond, None, option_map, find, refl, sym, ◌∙◌}
-use Rattle.csi_world.proofs.Words.{ap, ◌==◌, arith, Controller, Node, Number, Unimplemented, kind_of, Config}
-use Rattle.csi_world.proofs.Words.{Frame, plain_reply, stale_reply, call_frame, Kept, Fenced, answered_only}
-use Rattle.csi_world.proofs.Words.{answered_in, in_session, fenced_call, unanswered, Volume, ControllerState}
-use Rattle.csi_world.proofs.Words.{volume_with_id, NodeState, joined_node, after_frames}
+use Rattle.csi_world.proofs.Words.{ap, ◌==◌, arith, Controller, Node, Number, Unimplemented, kind_of, Config, Frame}
+use Rattle.csi_world.proofs.Words.{plain_reply, stale_reply, call_frame, Kept, answered_only, in_session, fenced_call}
+use Rattle.csi_world.proofs.Words.{Volume, ControllerState, volume_with_id, NodeState, joined_node, after_frames}
 use Rattle.csi_world.proofs.Lemmas.{lt-ltb, le-ltb, map-same, none_passes, none-where, find-none_in_filter}
 use Rattle.csi_world.proofs.Lemmas.{same_text-tells, Carried, no_room, has_room, was_carried}
 use Rattle.csi_types.specs.declared.call.Call.TheVariants as calls
@@ -73,16 +72,7 @@ node_frame session id = call_frame (number_of session) (Node id) (calls.CreateVo
 
 -- it does nothing else
 pub node-same : (id : List ℕ) (session : ℕ) (state : NodeState) → state.session < session → (node.fenced id state (node_frame session id)).state ≡ node.begun session state
-node-same id session state later =
-    ap (λ b. (cond b (answered_in (node.node_at id) state (number_of session) (calls.CreateVolume [] 0 0 [])) (unanswered state)).state) ((same_text-tells id id).1 refl)
-    ∙ ap (λ b. (cond b (answered_only (node.node_at id) state (number_of session) (kind_of (calls.CreateVolume [] 0 0 [])) stale_reply)
-    (fenced_call (node.node_at id) (in_session (node.node_at id) (number_of session) state) (number_of session) (calls.CreateVolume [] 0 0 []) None)).state) (le-ltb session state.session (not-later state.session session later))
-    ∙ ap (λ b. (fenced_call (node.node_at id) (cond b (node.begun session state) state) (number_of session) (calls.CreateVolume [] 0 0 []) None).state) (lt-ltb state.session session later)
-    ∙ carried _ (was_carried id (node.begun session state) (number_of session) (calls.CreateVolume [] 0 0 []))
-  where
-    carried : (after : Fenced NodeState) → Carried id (node.begun session state) (number_of session) (calls.CreateVolume [] 0 0 []) after → after.state ≡ node.begun session state
-    carried _ (no_room full) = refl
-    carried _ (has_room room) = refl
+node-same id session state later = grind (arith, same_text-tells, le-ltb, not-later, lt-ltb, was_carried, Carried, no_room, has_room)
 
 -- so a node's state that has begun a session is one to which frames lead
 pub node-begun : (id : List ℕ) (session : ℕ) (state : NodeState) → state.session < session → ((joined : ℕ) × (frames : List Frame) × (state ≡ after_frames id (joined_node joined) frames))

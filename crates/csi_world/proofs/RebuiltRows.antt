@@ -1,6 +1,6 @@
 -- A controller that is made of what its orchestrator keeps: its volumes and holdings are those of the record's rows, and all is so of its state that is
 -- kept of every controller's.
-use Rattle.std.proofs.Common.{◌≡◌, ◌⊎◌, ℕ, ◌<◌, List, [], ◌∷◌, filter_map, find, Bool, true, false, cond, Option, Some, None, option_map, is_some, ◌==◌, ◌&&◌, ◌||◌, refl, sym, ◌∙◌, ap, subst, inl, inr, arith}
+use Rattle.std.proofs.Common.{◌≡◌, ℕ, ◌<◌, List, [], ◌∷◌, filter_map, find, Bool, true, false, cond, Option, Some, None, option_map, is_some, ◌==◌, ◌&&◌, refl, sym, ◌∙◌, ap, subst, inl, inr, arith}
 use Rattle.std.specs.List.{cons_option}
 use Rattle.std.specs.Prelude.{option_and_then}
 use Rattle.std.proofs.lemmas.Bool.{and_from, or_left, or_parts, or_right, eq-eqb, false≢true}
@@ -12,7 +12,6 @@ use Rattle.csi_lists.proofs.Pairs.{two-flat}
 use Rattle.csi_lists.proofs.Searches.{find-of_map, find-one, find-passes}
 use Rattle.csi_types.specs.declared.holding.Holding.{Holding}
 use Rattle.csi_types.specs.Model.Same.{same_text}
-use Rattle.csi_types.specs.Model.Sharing.{is_single_node, is_single_writer, writes}
 use Rattle.csi_types.proofs.Equality.{same_text-tells}
 use Rattle.csi_controller.specs.Model.Safe.{AreExclusive}
 use Rattle.csi_controller.specs.Model.State.{Volume, ControllerState, live_volume}
@@ -86,18 +85,7 @@ pub record IsVolumeOf (volume : Volume) (row : RowShown) : Type 0 where
 
 -- so is what is made of the row
 volume-of_row : (row : RowShown) (volume : Volume) → rebuilt_volume row ≡ Some volume → IsVolumeOf volume row
-volume-of_row row volume = by row.id refl
-  where
-    at : (id : ℕ) → row.id ≡ Some id → (b : Bool) → is_no row.exists ≡ b → cond b None (Some (volume_with id row)) ≡ Some volume → IsVolumeOf volume row
-    at id has true maybe h = absurd (none-some volume h)
-    at id has false maybe h =
-        let is : volume_with id row ≡ volume = same_Some (volume_with id row) volume h in
-        let same : id ≡ volume.id = ap (λ (v : Volume). v.id) is in
-        record { has_id = has ∙ ap Some same; maybe = maybe; is = sym is ∙ ap (λ i. volume_with i row) same }
-
-    by : (o : Option ℕ) → row.id ≡ o → volume_by o row ≡ Some volume → IsVolumeOf volume row
-    by None has h = absurd (none-some volume h)
-    by (Some id) has h = at id has (is_no row.exists) refl h
+volume-of_row row volume = grind (arith, ℕ, Some, Bool, None, none-some, same_Some, Option)
 
 -- the holding of an entry
 abbrev pub holding_so : ℕ → NodeEntryShown → Holding
@@ -113,41 +101,15 @@ pub record IsHoldingOf (holding : Holding) (row : RowShown) : Type 0 where
 
 -- what is made of an entry
 holding-of_entry : (id : ℕ) (entry : NodeEntryShown) (holding : Holding) → rebuilt_holding id entry ≡ Some holding → (is_no entry.attached ≡ false) × (holding_so id entry ≡ holding)
-holding-of_entry id entry holding = by (is_no entry.attached) refl
-  where
-    by : (b : Bool) → is_no entry.attached ≡ b → cond b None (Some (holding_so id entry)) ≡ Some holding → (is_no entry.attached ≡ false) × (holding_so id entry ≡ holding)
-    by true maybe h = absurd (none-some holding h)
-    by false maybe h = (maybe, same_Some (holding_so id entry) holding h)
+holding-of_entry id entry holding = grind (arith, Bool, None, Some, none-some, same_Some)
 
 -- so is what is made of a row
 holding-of_row : (row : RowShown) (holding : Holding) → IsAmong holding (holdings_with row.id row.node_entries) → IsHoldingOf holding row
-holding-of_row row holding = by row.id refl
-  where
-    by : (o : Option ℕ) → row.id ≡ o → IsAmong holding (holdings_with o row.node_entries) → IsHoldingOf holding row
-    by None has among = absurd among
-    by (Some id) has among =
-        let from = among-filter_map (rebuilt_holding id) row.node_entries holding among in
-        let is = holding-of_entry id from.0 holding from.2 in
-        let same : id ≡ holding.volume = ap (λ (h : Holding). h.volume) is.1 in
-        record { entry = from.0; among = from.1; has_id = has ∙ ap Some same; maybe = is.0; is = sym is.1 ∙ ap (λ i. holding_so i from.0) same }
+holding-of_row row holding = grind (arith, Option, ℕ, None, Some, among-filter_map, holding-of_entry)
 
 -- two entries that can be beside one another, of two nodes, are held apart
 beside-exclusive : (id : ℕ) (a b : NodeEntryShown) → CanBeBeside a b × (same_text a.node b.node ≡ false) → AreExclusive (holding_so id a) (holding_so id b)
-beside-exclusive id a b both same =
-    let beside = both.0 in
-    let shared = or_parts (is_single_node a.capability.mode) (is_single_node b.capability.mode) beside.several in
-    record {
-      nodes = λ e. false≢true (sym both.1 ∙ (same_text-tells a.node b.node).1 e);
-      first_shared = shared.0;
-      second_shared = shared.1;
-      one_writer = λ single first second. false≢true (sym beside.one_writer
-          ∙ and_from (writes a.capability.mode a.readonly && writes b.capability.mode b.readonly) (is_single_writer a.capability.mode || is_single_writer b.capability.mode)
-          (and_from (writes a.capability.mode a.readonly) (writes b.capability.mode b.readonly) first second) (either single));
-    }
-  where
-    either : (is_single_writer a.capability.mode ≡ true) ⊎ (is_single_writer b.capability.mode ≡ true) → (is_single_writer a.capability.mode || is_single_writer b.capability.mode) ≡ true
-    either (inl first) = or_left (is_single_writer a.capability.mode) (is_single_writer b.capability.mode) first
-    either (inr second) = or_right (is_single_writer a.capability.mode) (is_single_writer b.capability.mode) second
+beside-exclusive id a b both same = grind (arith, or_parts, false≢true, same_text-tells, and_from, or_left, or_right)
 
 module _ (r : Rebuilding) where
   -- the world before

@@ -1,6 +1,6 @@
 -- What a controller has that is made of what its orchestrator keeps, and what the orchestrator's history tells of it: what was done and heard is so, and
 -- of what is there a call was sent.
-use Rattle.std.proofs.Common.{◌≡◌, ◌⊎◌, ℕ, ◌<◌, ◌≤◌, List, [], filter, find, Bool, true, false, cond, not, Option, Some, None, option_map, is_some, ◌==◌, ◌&&◌, ◌||◌, refl, sym, ◌∙◌, ap, subst, inl, inr, ⊎_elim, arith}
+use Rattle.std.proofs.Common.{◌≡◌, ◌⊎◌, ℕ, ◌<◌, ◌≤◌, List, [], filter, find, Bool, true, false, not, Option, Some, None, option_map, is_some, ◌==◌, ◌&&◌, ◌||◌, refl, sym, ◌∙◌, ap, subst, inl, inr, ⊎_elim, arith}
 use Rattle.std.specs.List.{list_any}
 use Rattle.std.proofs.lemmas.Bool.{and_from, and_parts, eq-eqb, eqb-true, false≢true, or_cases, true≢false}
 use Rattle.std.proofs.lemmas.Option.{none-some, same_Some}
@@ -36,7 +36,7 @@ use Rattle.csi_orchestrator.specs.declared.thing.Thing.TheVariants as things
 use Rattle.csi_orchestrator.specs.Model.Thing.{Issued, is_no, is_doing, touches}
 use Rattle.csi_orchestrator.specs.Model.History.{Held, Item, Accepted}
 use Rattle.csi_orchestrator.specs.Model.Readings as readings
-use Rattle.csi_orchestrator.specs.Model.Readings.{id_in, id_of, issued_in, is_success_of, has_success, known, last_number, lifetime}
+use Rattle.csi_orchestrator.specs.Model.Readings.{id_in, id_of, issued_in, has_success, known, last_number, lifetime}
 use Rattle.csi_orchestrator.specs.Model.Shown.{NodeEntryShown, RowShown, held_at, mark_in, node_entry_of}
 use Rattle.csi_orchestrator.specs.Public.Record.{RecordParts}
 use Rattle.csi_world.specs.Model.World.{World}
@@ -68,17 +68,10 @@ same_id (Some a) None = false
 same_id (Some a) (Some b) = a == b
 
 same_id-tells : (a b : Option ℕ) → same_id a b ≡ true → a ≡ b
-same_id-tells None None e = refl
-same_id-tells None (Some b) e = absurd (false≢true e)
-same_id-tells (Some a) None e = absurd (false≢true e)
-same_id-tells (Some a) (Some b) e = ap Some (eqb-true a b e)
+same_id-tells a b e = grind (arith, false≢true, Some, eqb-true)
 
 same_id-self : (a b : Option ℕ) → a ≡ b → same_id a b ≡ true
-same_id-self a b e = subst (λ o. same_id a o ≡ true) e (self a)
-  where
-    self : (o : Option ℕ) → same_id o o ≡ true
-    self None = refl
-    self (Some id) = eq-eqb id id refl
+same_id-self a b e = grind (arith, Option, ℕ, None, Some, eq-eqb)
 
 -- the item tells of an OK with this id to the call of this number
 abbrev is_told_so : Number → Option ℕ → Item → Bool
@@ -105,29 +98,13 @@ pub record WasHeard (items : List Item) (call : Issued) (reply : Reply) : Type 0
 
 -- by an item
 heard-by : (items : List Item) (call : Issued) (reply : Reply) (item : Item) → IsAmong item items → is_told_so call.number reply.id item ≡ true → WasHeard items call reply
-heard-by items call reply (Accepted other status heard) among told =
-    let parts = and_parts (same_number other call.number && is_ok_status status) (same_id heard reply.id) told in
-    record {
-      item = Accepted other status heard;
-      among = among;
-      has_id = ap (λ b. cond b heard None) parts.0 ∙ same_id-tells heard reply.id parts.1;
-      success = then-any (is_success_of call.number) items (Accepted other status heard) among parts.0;
-    }
-heard-by items call reply item among told = absurd (false≢true told)
+heard-by items call reply item among told = grind (arith, parts, and_parts, None, same_id-tells, then-any, false≢true)
 
 -- ---- calls of attachments
 
 -- whose call is for a volume that has the name so
 pub attached-has : (has : List ℕ → ℕ → Type 0) (name : List ℕ) (party : Party) (c : Call) (id : ℕ) (node : List ℕ) → IsFor has name party c → is_plugin_thing (Attached id node) (plugin_thing_at name party c) ≡ true → has name id
-attached-has has name Controller (calls.CreateVolume create required limit capabilities) id node own of = absurd (false≢true of)
-attached-has has name Controller (calls.DeleteVolume i) id node own of = absurd (false≢true of)
-attached-has has name Controller (calls.ControllerPublishVolume i there capability readonly) id node own of = subst (has name) (sym (eqb-true id i (and_parts (id == i) (same_text node there) of).0)) own
-attached-has has name Controller (calls.ControllerUnpublishVolume i there) id node own of = subst (has name) (sym (eqb-true id i (and_parts (id == i) (same_text node there) of).0)) own
-attached-has has name (Node here) (calls.NodeStageVolume i capability) id node own of = absurd (false≢true of)
-attached-has has name (Node here) (calls.NodeUnstageVolume i) id node own of = absurd (false≢true of)
-attached-has has name (Node here) (calls.NodePublishVolume i target capability readonly) id node own of = absurd (false≢true of)
-attached-has has name (Node here) (calls.NodeUnpublishVolume i target) id node own of = absurd (false≢true of)
-attached-has has name party c id node own of = absurd own
+attached-has has name party c id node own of = grind (arith, false≢true, eqb-true, and_parts, own)
 
 -- it makes no volume
 attached-making : (name : List ℕ) (party : Party) (c : Call) (id : ℕ) (node : List ℕ) → is_plugin_thing (Attached id node) (plugin_thing_at name party c) ≡ true → is_making c ≡ false

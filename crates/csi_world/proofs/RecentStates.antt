@@ -1,7 +1,7 @@
 -- A controller whose volumes are live, or had their last call in its session, has such volumes after each frame.
-use Rattle.csi_world.proofs.Words.{◌≡◌, ◌⊎◌, ℕ, ◌≤◌, ◌∷◌, Bool, true, false, cond, refl, sym, ◌∙◌, subst, inl, inr, arith}
-use Rattle.csi_world.proofs.Words.{◌==◌, Number, Call, Config, IsAmong, kind_of, capacity_wanted, Kept, Volume}
-use Rattle.csi_world.proofs.Words.{ControllerState, is_row_for, ended_volume}
+use Rattle.csi_world.proofs.Words.{◌≡◌, ◌⊎◌, ℕ, ◌≤◌, ◌∷◌, true, refl, sym, subst, inl, inr, arith, Number, Call}
+use Rattle.csi_world.proofs.Words.{Config, IsAmong, kind_of, capacity_wanted, Kept, Volume, ControllerState}
+use Rattle.csi_world.proofs.Words.{is_row_for, ended_volume}
 use Rattle.csi_world.proofs.Lemmas.{true≢false, among-either, among-map}
 use Rattle.csi_types.specs.declared.call.Call.TheVariants as calls
 use Rattle.csi_fence.proofs.FramesKeep.{IsKept}
@@ -16,11 +16,7 @@ IsDue call session volume = IsRecent session volume ⊎ (is_row_for call volume 
 
 -- a volume that is ended is the call's row
 ended-due : (id session : ℕ) (volume : Volume) → IsRecent session volume → IsDue (calls.DeleteVolume id) session (ended_volume id volume)
-ended-due id session volume recent = by (volume.id == id) refl
-  where
-    by : (b : Bool) → (volume.id == id) ≡ b → IsDue (calls.DeleteVolume id) session (cond b (record volume { is_live = false }) volume)
-    by true same = inr same
-    by false other = inl recent
+ended-due id session volume recent = grind arith
 
 -- so it is after each answer of the table
 changed-due : (config : Config) (state : ControllerState) (call : Call) (outcome : Outcome) (kept : Kept) → IsOutcome config state call outcome → kept.number.session ≡ state.session → AreRecent state
@@ -44,12 +40,7 @@ changed-due config state call outcome kept (was_detached_before id node none) sa
 
 -- and once the call is kept in its row
 kept-recent : (call : Call) (kept : Kept) (session : ℕ) (volume : Volume) → kept.number.session ≡ session → IsDue call session volume → IsRecent session (kept_in call kept volume)
-kept-recent call kept session volume same due = by (is_row_for call volume) refl due
-  where
-    by : (b : Bool) → is_row_for call volume ≡ b → IsDue call session volume → IsRecent session (cond b (record volume { kept = kept }) volume)
-    by true row d = record { each = inr same; before = omega (arith, same) }
-    by false other (inl recent) = recent
-    by false other (inr row) = absurd (true≢false (sym row ∙ other))
+kept-recent call kept session volume same due = grind (arith, IsRecent, true≢false)
 
 -- so each frame leaves it
 pub recent-kept : (config : Config) → IsKept (controller_with config) AreRecent

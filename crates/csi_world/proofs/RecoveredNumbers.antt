@@ -1,5 +1,5 @@
 -- Numbers of one session, and of earlier ones.
-use Rattle.csi_world.proofs.Words.{◌≡◌, ℕ, ◌<◌, ◌≤◌, ◌-◌, ap, inl, inr, arith, Number, IsBefore}
+use Rattle.csi_world.proofs.Words.{◌≡◌, ℕ, ◌<◌, ◌≤◌, ◌-◌, arith, Number, IsBefore}
 use Rattle.csi_world.proofs.Lemmas.{nat_tests}
 use Rattle.csi_world.proofs.HeardNumbers.{IsUpTo}
 
@@ -17,15 +17,7 @@ session-before a b less = grind (arith, nat_tests)
 
 -- a number after the last one's call, in its session or a later one, is none up to the last one
 pub far : (last start number : Number) → last.session ≤ start.session → start.call ≡ last.call → IsBefore start number → start.session ≡ number.session → IsUpTo last number → ⊥
-far last start number low same after of (inl e) =
-    let more = greater start number after of in
-    let is : number.call ≡ last.call = ap (λ (n : Number). n.call) e in
-    omega (arith, more, is, same)
-far last start number low same after of (inr before) =
-    let more = greater start number after of in
-    let up = no-earlier number last before in
-    let less = greater number last before (omega (arith, up, low, of)) in
-    omega (arith, more, less, same)
+far last start number low same after of h = grind (arith, greater, no-earlier)
 
 -- a session before one
 pub earlier-one : (a b : ℕ) → a < b → b - 1 < b

@@ -1,4 +1,5 @@
 -- The rows of an orchestrator that is made of what its plugins keep are told by calls that tell what the plugins have.
+use Rattle.csi_world.proofs.Words.{arith}
 use Rattle.std.proofs.Common.{◌≡◌, ℕ, List, [], ◌∷◌, map, filter, find, true, false, Option, Some, None, option_map, refl, sym, ◌∙◌, ap, subst, inl, inr, ⊎_elim, ◌==◌}
 use Rattle.std.specs.List.{AllByRecursion}
 use Rattle.std.proofs.lemmas.Bool.{and_parts, and_from, eqb-true, eq-eqb, false≢true}
@@ -68,9 +69,7 @@ pub record IsEntryOf (holding : Holding) (entry : NodeEntryShown) : Type 0 where
 
 -- by how it is staged and published
 entry-by : (holding : Holding) (staged : Option Capability) (published : List PublishedVolume) → IsEntryOf holding (entry_by holding staged published)
-entry-by holding None published = record { node = refl; capability = refl; readonly = refl; attached = refl }
-entry-by holding (Some capability) [] = record { node = refl; capability = refl; readonly = refl; attached = refl }
-entry-by holding (Some capability) (first ∷ others) = record { node = refl; capability = refl; readonly = refl; attached = refl }
+entry-by holding staged published = grind arith
 
 -- by what the node knows
 entry-at : (holding : Holding) (o : Option NodeState) → IsEntryOf holding (entry_at holding o)

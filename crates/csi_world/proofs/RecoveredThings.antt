@@ -1,4 +1,5 @@
 -- What is there after a recovery is told by the orchestrator's history: of each thing that is there a call was sent.
+use Rattle.csi_world.proofs.Words.{arith}
 use Rattle.std.proofs.Common.{◌≡◌, ℕ, List, [], ◌∷◌, map, find, Bool, true, false, cond, Option, Some, None, option_map, is_some, ◌==◌, ◌&&◌, refl, sym, ◌∙◌, ap, subst, inl}
 use Rattle.std.proofs.lemmas.Bool.{and_parts, eqb-true, eq-eqb, false≢true}
 use Rattle.std.proofs.lemmas.Option.{none-some}
@@ -26,9 +27,9 @@ use Rattle.csi_orchestrator.specs.declared.thing.Thing.{Thing}
 use Rattle.csi_orchestrator.specs.declared.thing.Thing.TheVariants as things
 use Rattle.csi_orchestrator.specs.declared.thing.Known.TheVariants.{Yes, No}
 use Rattle.csi_orchestrator.specs.Model.Thing.{Issued, name_in, touches}
-use Rattle.csi_orchestrator.specs.Model.History.{Item, Started, Lost, Forgotten, Sent, Accepted, Closed, Noted}
+use Rattle.csi_orchestrator.specs.Model.History.{Item}
 use Rattle.csi_orchestrator.specs.Model.Readings as readings
-use Rattle.csi_orchestrator.specs.Model.Readings.{issued_in, known_by, known, last_number}
+use Rattle.csi_orchestrator.specs.Model.Readings.{issued_in, known_by, known}
 use Rattle.csi_orchestrator.specs.Model.Shown.{NodeEntryShown, RowShown, row_of, node_entry_of, mark_in, mark_of, publication_known}
 use Rattle.csi_orchestrator.specs.Public.Restored.{IsRestorable}
 use Rattle.csi_world.specs.Model.World.{node_state}
@@ -47,13 +48,7 @@ use Rattle.csi_world.proofs.RecoveredPlugins.{Recovery, laws, old, right, nodes,
 
 -- no such item ends a thing by its name
 plain-kept : (thing : Thing) (item : Item) → IsPlain item → readings.ends thing item ≡ false
-plain-kept thing (Started number list) plain = absurd plain
-plain-kept thing (Lost node) plain = absurd plain
-plain-kept thing (Forgotten name) plain = absurd plain
-plain-kept thing (Sent call) plain = refl
-plain-kept thing (Accepted number status id) plain = refl
-plain-kept thing (Closed number) plain = refl
-plain-kept thing (Noted name goal) plain = refl
+plain-kept thing item plain = grind arith
 
 -- ---- entries
 

@@ -35,7 +35,7 @@ use Rattle.csi_orchestrator.specs.declared.thing.Thing.TheVariants as things
 use Rattle.csi_orchestrator.specs.Model.Thing.{Issued, touches}
 use Rattle.csi_orchestrator.specs.Model.History.{Started, Accepted, History}
 use Rattle.csi_orchestrator.specs.Model.Readings as readings
-use Rattle.csi_orchestrator.specs.Model.Readings.{issued_in, known_by, known, last_number, open_call}
+use Rattle.csi_orchestrator.specs.Model.Readings.{last_number, open_call}
 use Rattle.csi_orchestrator.specs.Model.WellFormed.{IsWellFormed}
 use Rattle.csi_orchestrator.specs.Model.Shown.{Shows}
 use Rattle.csi_orchestrator.specs.Public.Steps.{Opens}

@@ -3,9 +3,9 @@
 use Rattle.csi_world.proofs.Words.{◌≡◌, ◌⊎◌, ◌<◌, ◌≤◌, ℕ, List, [], ◌∷◌, ◌++◌, Bool, true, false, cond, Option, Some}
 use Rattle.csi_world.proofs.Words.{None, is_some, IsTrue, refl, sym, ◌∙◌, ap, subst, inl, inr, ⊎_elim, arith, Number}
 use Rattle.csi_world.proofs.Words.{Call, Kind, Party, Reply, kind_of, PluginView, Delivery, Acts, Rests, Misses}
-use Rattle.csi_world.proofs.Words.{IsClosed, Kept, Frame, PluginThing, HasId, same_plugin_thing, asked, IsAmong}
-use Rattle.csi_world.proofs.Words.{EachTwo, IsBefore, is_ok_status, has_id_by_rule, reply_frame, stale_reply, Issued}
-use Rattle.csi_world.proofs.Words.{is_doing, frame_of}
+use Rattle.csi_world.proofs.Words.{IsClosed, Kept, Frame, PluginThing, same_plugin_thing, asked, IsAmong, EachTwo}
+use Rattle.csi_world.proofs.Words.{IsBefore, is_ok_status, has_id_by_rule, reply_frame, stale_reply, Issued, is_doing}
+use Rattle.csi_world.proofs.Words.{frame_of}
 use Rattle.csi_world.proofs.Lemmas.{false≢true, none-some, same_Some, some_is_not_none, is_some-map, all_of}
 use Rattle.csi_world.proofs.Lemmas.{among-append, among-either, same_plugin_thing-tells}
 use Rattle.csi_types.specs.declared.call.Call.TheVariants as calls
@@ -134,11 +134,7 @@ delivery_of call kind reply = record { number = call.number; call = call.call; k
 
 -- a call is of one thing
 one-thing : (call : Issued) (a b : PluginThing) → is_of a call ≡ true → is_of b call ≡ true → a ≡ b
-one-thing call a b p q = by (plugin_thing_at call.name call.party call.call) p q
-  where
-    by : (o : Option PluginThing) → is_plugin_thing a o ≡ true → is_plugin_thing b o ≡ true → a ≡ b
-    by None p q = absurd (false≢true p)
-    by (Some k) p q = (same_plugin_thing-tells a k).0 p ∙ sym ((same_plugin_thing-tells b k).0 q)
+one-thing call a b p q = grind (arith, plugin_thing_at, is_plugin_thing, false≢true, same_plugin_thing-tells)
 
 -- the frame of a reply tells its kind and what it says
 pub reply-parts : (a b : Number) (p q : Party) (k l : Kind) (r s : Reply) → reply_frame a p k r ≡ reply_frame b q l s → (k ≡ l) × (r ≡ s)
@@ -150,12 +146,7 @@ is_ok reply ok = ap is_ok_status ok
 
 -- a call that brings its thing about asks for it
 pub asked-doing : (c : Call) (reply : Reply) → is_doing c ≡ true → reply.status ≡ Ok → IsTrue (has_id_by_rule (kind_of c) reply) → is_some (asked c reply) ≡ true
-asked-doing (calls.CreateVolume create required limit capabilities) reply doing ok rule =
-    is_some-map HasId reply.id ∙ (let given : cond (is_ok_status reply.status) (is_some reply.id) _ ≡ true = rule in rw (is_ok reply ok) at given)
-asked-doing (calls.ControllerPublishVolume id node capability readonly) reply doing ok rule = refl
-asked-doing (calls.NodeStageVolume id capability) reply doing ok rule = refl
-asked-doing (calls.NodePublishVolume id target capability readonly) reply doing ok rule = refl
-asked-doing c reply doing ok rule = absurd (false≢true doing)
+asked-doing c reply doing ok rule = grind (arith, is_some-map, is_ok, false≢true)
 
 -- a sent call that a plugin answered, and the things before and after it
 module _ (issued : List Issued) (frames : List Frame) (old new : PluginView) (call : Issued) (thing : PluginThing) (kind : Kind) (reply : Reply) where

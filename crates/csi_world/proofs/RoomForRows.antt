@@ -1,17 +1,16 @@
 -- A node has room for the row of a call that was just sent: its rows are of volumes that the orchestrator has rows of.
 use Rattle.csi_world.proofs.Words.{◌≡◌, ◌⊎◌, ℕ, ◌+◌, ◌<◌, ◌≤◌, List, [], ◌∷◌, ◌++◌, length, map, find, Bool, true}
-use Rattle.csi_world.proofs.Words.{false, cond, Option, Some, None, option_map, is_some, ◌&&◌, ◌==◌, refl, sym, ◌∙◌, ap}
-use Rattle.csi_world.proofs.Words.{subst, inl, inr, ⊎_elim, length-append, arith, is_none, nat_le, nat_lt, IsSome}
-use Rattle.csi_world.proofs.Words.{AllByRecursion, MAX_ROWS, Number, Call, Party, Controller, Node, PluginThing, Exists}
-use Rattle.csi_world.proofs.Words.{same_text, IsAmong, EachTwo, begins, Volume, live_volume, NodeState, AnsweredVolume}
-use Rattle.csi_world.proofs.Words.{StagedVolume, staged_of, row_with_id, row_of_volume, volume_of, Issued, Item}
-use Rattle.csi_world.proofs.Words.{Started, Sent, History, with_items, issued_in, last_in, last_number, names_of}
+use Rattle.csi_world.proofs.Words.{false, cond, Option, Some, None, option_map, is_some, ◌&&◌, ◌==◌, refl, sym, ◌∙◌}
+use Rattle.csi_world.proofs.Words.{ap, subst, inl, inr, ⊎_elim, length-append, arith, is_none, nat_le, nat_lt, IsSome}
+use Rattle.csi_world.proofs.Words.{AllByRecursion, MAX_ROWS, Number, Call, Party, Controller, Node, PluginThing}
+use Rattle.csi_world.proofs.Words.{Exists, same_text, IsAmong, EachTwo, begins, Volume, live_volume, NodeState}
+use Rattle.csi_world.proofs.Words.{AnsweredVolume, StagedVolume, staged_of, row_with_id, row_of_volume, volume_of}
+use Rattle.csi_world.proofs.Words.{Issued, Item, Sent, History, with_items, issued_in, last_in, last_number, names_of}
 use Rattle.csi_world.proofs.Words.{has_row, AreWellFormed, World, node_state, Safe}
 use Rattle.csi_world.proofs.Lemmas.{and_parts, eqb-true, eq-eqb, false≢true, nat_tests, length-map, same_Some}
 use Rattle.csi_world.proofs.Lemmas.{same_text-tells, all_of, each_of, among-append, among-find, among-joined}
 use Rattle.csi_world.proofs.Lemmas.{among-kept, among-map, among-right, none_passes, two-filter, two-map, two-more}
 use Rattle.csi_world.proofs.Lemmas.{find-passes, any-then, AreCurrent, all_current}
-use Rattle.csi_types.specs.declared.call.Call.TheVariants as calls
 use Rattle.csi_controller.specs.Public.View as controllers
 use Rattle.csi_node.specs.Model.Fenced as nodes
 use Rattle.csi_orchestrator.specs.declared.thing.Thing.TheVariants as things
@@ -71,30 +70,18 @@ few-ids has one (id ∷ ids) names apart named =
 
 -- sessions rise
 session-grows : (began : Number) (item : Item) (older : List Item) → AreWellFormed began (item ∷ older) → (last_in began older).session ≤ (last_in began (item ∷ older)).session
-session-grows began (Started session nodes) older form = let less = form.0 in omega (arith, less)
-session-grows began (Sent issued) older form = let same = form.0.0.same_session in omega (arith, same)
-session-grows began item older form = omega arith
+session-grows began item older form = grind arith
 
 -- what ended did so by the last session
 over-last : (began : Number) (items : List Item) (thing : PluginThing) → AreWellFormed began items → over_in began items thing ≤ (last_in began items).session
 over-last began [] thing form = omega arith
-over-last began (item ∷ older) thing form =
-    by (ends thing item) (over-last began older thing form.1) (session-grows began item older form)
-  where
-    by : (b : Bool) → over_in began older thing ≤ (last_in began older).session → (last_in began older).session ≤ (last_in began (item ∷ older)).session
-        → cond b (last_in began older).session (over_in began older thing) ≤ (last_in began (item ∷ older)).session
-    by true over grows = grows
-    by false over grows = omega (arith, over, grows)
+over-last began (item ∷ older) thing form = grind (arith, ends, session-grows, over_in, (over-last began older thing form.1))
 
 -- ---- what the rows of a node are of
 
 -- a call to a node is about a volume
 own-volume : (has : List ℕ → ℕ → Type 0) (name node : List ℕ) (call : Call) → IsFor has name (Node node) call → (id : ℕ) × (volume_of call ≡ Some id) × has name id
-own-volume has name node (calls.NodeStageVolume id capability) own = (id, refl, own)
-own-volume has name node (calls.NodeUnstageVolume id) own = (id, refl, own)
-own-volume has name node (calls.NodePublishVolume id target capability readonly) own = (id, refl, own)
-own-volume has name node (calls.NodeUnpublishVolume id target) own = (id, refl, own)
-own-volume has name node call own = absurd own
+own-volume has name node call own = grind arith
 
 module _ (laws : RunLaws) (world : World) (run : IsRun world) where
   abbrev given : List GivenId

@@ -1,16 +1,16 @@
 -- The rows of an orchestrator in a world to which events led, and what they tell: each volume that is there has an id, and what may be
 -- staged or published is so at a listed node.
-use Rattle.csi_world.proofs.Words.{◌≡◌, ◌≢◌, ◌⊎◌, ℕ, List, [], ◌∷◌, find, true, false, cond, Option, Some, None, refl}
-use Rattle.csi_world.proofs.Words.{sym, ◌∙◌, ap, subst, inl, inr, ⊎_elim, arith, Result, Ok, Err, is_some, not, IsTrue}
-use Rattle.csi_world.proofs.Words.{filter_map, option_and_then, AllByRecursion, list_any, Number, Call, Party}
-use Rattle.csi_world.proofs.Words.{Controller, Node, Capability, Reply, kind_of, is_ok_status, same_text, PluginThing}
-use Rattle.csi_world.proofs.Words.{Exists, has_id_by_rule, IsAmong, EachTwo, OrchFault, Thing, Known, Yes, No, Maybe}
-use Rattle.csi_world.proofs.Words.{Issued, name_in, is_doing, Item, Accepted, History, newest, known, id_of, nodes_of}
-use Rattle.csi_world.proofs.Words.{id_in, id_by, is_success_of, issued_in, issued_since, lifetime, Input, Moved, moves}
-use Rattle.csi_world.proofs.Words.{NodeEntryShown, RowShown, OrchestratorParts, row_of, node_entry_of, mark_in, mark_of}
-use Rattle.csi_world.proofs.Words.{publication_known, Shows, IsWellFormed, moved_to, MovedRows, IsStanding}
-use Rattle.csi_world.proofs.Words.{IsStandingIf, IsSteadyRow, IsSteadyRowIf, AreSteadyRows, AreSteadyRowsIf, HasOne}
-use Rattle.csi_world.proofs.Words.{HasMarks, IsAtWork, IsAtRest, IsLeftSo, AreMarked, World}
+use Rattle.csi_world.proofs.Words.{◌≡◌, ◌≢◌, ℕ, List, [], ◌∷◌, find, true, false, cond, Option, Some, None, refl, sym}
+use Rattle.csi_world.proofs.Words.{◌∙◌, ap, subst, inl, inr, arith, Result, Ok, Err, IsTrue, filter_map}
+use Rattle.csi_world.proofs.Words.{option_and_then, AllByRecursion, list_any, Number, Call, Party, Controller, Node}
+use Rattle.csi_world.proofs.Words.{Capability, Reply, kind_of, same_text, PluginThing, Exists, has_id_by_rule, IsAmong}
+use Rattle.csi_world.proofs.Words.{EachTwo, OrchFault, Thing, Known, Yes, No, Maybe, Issued, is_doing, Item, Accepted}
+use Rattle.csi_world.proofs.Words.{History, newest, known, id_of, nodes_of, id_in, id_by, is_success_of, issued_in}
+use Rattle.csi_world.proofs.Words.{issued_since, lifetime, Input, Moved, moves, NodeEntryShown, RowShown}
+use Rattle.csi_world.proofs.Words.{OrchestratorParts, row_of, node_entry_of, mark_in, mark_of, publication_known}
+use Rattle.csi_world.proofs.Words.{Shows, IsWellFormed, moved_to, MovedRows, IsStanding, IsStandingIf, IsSteadyRow}
+use Rattle.csi_world.proofs.Words.{IsSteadyRowIf, AreSteadyRows, AreSteadyRowsIf, HasOne, HasMarks, IsAtWork, IsAtRest}
+use Rattle.csi_world.proofs.Words.{AreMarked, World}
 use Rattle.csi_world.proofs.Lemmas.{false≢true, none-some, same_text-tells, all_of, each_of, among-find, in-filter_map}
 use Rattle.csi_world.proofs.Lemmas.{in_filter, find-one, find-passes, any-then, one-each}
 use Rattle.csi_types.specs.declared.call.Call.TheVariants as calls
@@ -27,7 +27,7 @@ use Rattle.csi_orchestrator.proofs.KeptRows.{any-fit, rows-stay-steady-if}
 use Rattle.csi_orchestrator.proofs.RepliesAgree.{all-tell}
 use Rattle.csi_orchestrator.proofs.RulesStay.{rows-stay-sound}
 use Rattle.csi_orchestrator.proofs.SendingAgrees.{Tells}
-use Rattle.csi_world.proofs.CallThings.{IsThingBy, Existence, Attachment, Staging, Publication, is_of, is_plugin_thing, plugin_thing_at}
+use Rattle.csi_world.proofs.CallThings.{IsThingBy, is_of, is_plugin_thing, plugin_thing_at}
 use Rattle.csi_world.proofs.Forgotten.{told_by}
 use Rattle.csi_world.proofs.GivenIds.{GivenId}
 use Rattle.csi_world.proofs.HeardReplies.{heard-ok}
@@ -47,18 +47,11 @@ newest-is (y ∷ ys) x among = (y, refl, inl refl)
 
 -- a success of CreateVolume has an id
 made-id : (reply : Reply) → reply.status ≡ statuses.Ok → IsTrue (has_id_by_rule kinds.CreateVolume reply) → (id : ℕ) × (reply.id ≡ Some id)
-made-id reply ok rule = by reply.id (ap (λ s. cond (is_ok_status s) (is_some reply.id) (not (is_some reply.id))) (sym ok) ∙ rule)
-  where
-    by : (o : Option ℕ) → is_some o ≡ true → (id : ℕ) × (o ≡ Some id)
-    by None h = absurd (false≢true h)
-    by (Some id) h = (id, refl)
+made-id reply ok rule = grind (arith, false≢true)
 
 -- whether a volume is there is one thing by the name and by an id
 existence-is : {has : List ℕ → ℕ → Type 0} (thing : Thing) (plugin_thing : PluginThing) → IsThingBy has thing plugin_thing → (name : List ℕ) → thing ≡ things.Exists name → plugin_thing ≡ Exists name
-existence-is _ _ (Existence other) name e = ap Exists (ap name_in e)
-existence-is _ _ (Attachment other node id has) name e = absurd (false≢true (ap is_exists e))
-existence-is _ _ (Staging other node id has) name e = absurd (false≢true (ap is_exists e))
-existence-is _ _ (Publication other node target id has) name e = absurd (false≢true (ap is_exists e))
+existence-is thing plugin_thing h name e = grind (arith, false≢true, is_exists)
 
 -- so it is in every world
 pub have-ids : (world : World) → IsRight world → HaveIds world.history
@@ -228,12 +221,7 @@ resting-targeted entry (inr left) staged = absurd (staged left.staged)
 
 -- so it is of each entry of a row
 all-targeted : (goal : Option KeptGoal) (entries : List NodeEntryShown) → AreMarked IsAtWork (λ mark. mark ≢ No) goal entries → AllByRecursion IsTargeted entries
-all-targeted (Some (kept.Use usage)) entries marked =
-    one-each (λ (e : NodeEntryShown). e.node) usage.node (HasMarks IsAtWork usage.target) IsAtRest IsTargeted entries (λ entry found marks staged. marks-targeted usage.target entry marks) resting-targeted marked
-all-targeted (Some (kept.Stop node target)) entries marked =
-    one-each (λ (e : NodeEntryShown). e.node) node (λ e. HasMarks IsAtWork target e ⊎ IsLeftSo (λ mark. mark ≢ No) e) IsAtRest IsTargeted entries
-    (λ entry found so staged. ⊎_elim (λ marks. marks-targeted target entry marks) (λ left. absurd (staged left.staged)) so) resting-targeted marked
-all-targeted goal entries marked = all_of IsTargeted entries (λ entry among. resting-targeted entry (each_of IsAtRest entries entry marked among))
+all-targeted goal entries marked = grind (arith, one-each, marks-targeted, resting-targeted, all_of, each_of)
 
 -- the entry of a node of the name's row, where something is known of it
 record HasEntryAt (history : History) (rows : HasRows history) (name node : List ℕ) (mark : NodeEntryShown → Known) : Type 0 where

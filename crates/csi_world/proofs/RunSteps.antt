@@ -2,16 +2,16 @@
 use Rattle.csi_world.proofs.Words.{◌≡◌, ◌+◌, ◌≤◌, ℕ, zero, suc, List, [], ◌∷◌, ◌++◌, length, map, filter_map, reverse}
 use Rattle.csi_world.proofs.Words.{Bool, true, false, cond, Option, Some, None, not, ◌||◌, Result, Ok, Err, slice_get}
 use Rattle.csi_world.proofs.Words.{refl, sym, ◌∙◌, ap, subst, arith, length-append, append_assoc, append-nil}
-use Rattle.csi_world.proofs.Words.{AllByRecursion, cons_option, is_none, Party, Controller, Node, Body, Frame}
-use Rattle.csi_world.proofs.Words.{same_text, IsAmong, NodeState, OrchFault, Goal, Create, Use, Stop, Delete, Item}
-use Rattle.csi_world.proofs.Words.{Started, Lost, Forgotten, Sent, Accepted, Closed, Noted, History, with_items}
-use Rattle.csi_world.proofs.Words.{issued_by, issued_in, last_number, nodes_of, names_of, goal_of, has_row, loss_fault}
-use Rattle.csi_world.proofs.Words.{Event, World, node_id, empty_world, node_state, without_node, with_history, Choice}
-use Rattle.csi_world.proofs.Words.{Sends, Closes, Takes, Notes, Starts, Forgets, Answers, Joins, Loses, Configures}
-use Rattle.csi_world.proofs.Words.{chosen, MayChooseAll, chosen_all, frame_of, answered_by_plugin, Occurred, OnItsWay}
-use Rattle.csi_world.proofs.Words.{by_answer, by_result, orchestrated, called_at, called, delivered_body, delivered}
-use Rattle.csi_world.proofs.Words.{frame_numbered, restarted_at, joined_at, lost_by, is_node_of, lost, delivered_on}
-use Rattle.csi_world.proofs.Words.{brought_on, settled_by, settling_way, occurs, after_from}
+use Rattle.csi_world.proofs.Words.{AllByRecursion, is_none, Party, Controller, Node, Body, Frame, IsAmong, NodeState}
+use Rattle.csi_world.proofs.Words.{OrchFault, Create, Use, Stop, Delete, Item, Started, Lost, Forgotten, Sent}
+use Rattle.csi_world.proofs.Words.{Accepted, Closed, Noted, History, with_items, issued_by, issued_in, last_number}
+use Rattle.csi_world.proofs.Words.{nodes_of, names_of, goal_of, has_row, loss_fault, Event, World, node_id}
+use Rattle.csi_world.proofs.Words.{empty_world, node_state, without_node, with_history, Choice, Sends, Closes, Takes}
+use Rattle.csi_world.proofs.Words.{Notes, Starts, Forgets, Answers, Joins, Loses, Configures, chosen, MayChooseAll}
+use Rattle.csi_world.proofs.Words.{chosen_all, frame_of, answered_by_plugin, Occurred, OnItsWay, by_answer, by_result}
+use Rattle.csi_world.proofs.Words.{orchestrated, called_at, called, delivered_body, delivered, frame_numbered}
+use Rattle.csi_world.proofs.Words.{joined_at, lost_by, is_node_of, lost, delivered_on, brought_on, settled_by}
+use Rattle.csi_world.proofs.Words.{settling_way, occurs, after_from}
 use Rattle.csi_world.proofs.Lemmas.{none-some, reverse-append, filter_map-append, each-append, among-append}
 use Rattle.csi_types.specs.declared.frame.Body.TheVariants as bodies
 use Rattle.csi_orchestrator.specs.declared.fault.Heard.TheVariants as heard
@@ -105,11 +105,7 @@ items-come world input (item ∷ older) came plain may =
 -- none of what is done is a loss, where none came
 none-lost : (history : History) (input : orchestrator.Input) (items : List Item) → ((node : List ℕ) → input ≡ orchestrator.Loses node → ⊥) → stepwise.MayDoAll history input items → AllByRecursion IsNoLoss items
 none-lost history input [] other may = tt
-none-lost history input (item ∷ older) other may =
-    ((λ node e. other node (lost_came (subst (stepwise.MayDo (with_items history older) input) e may.0))), none-lost history input older other may.1)
-  where
-    lost_came : {node : List ℕ} → stepwise.MayLose (with_items history older) input node → input ≡ orchestrator.Loses node
-    lost_came so = so.came
+none-lost history input (item ∷ older) other may = grind (arith, (none-lost history input older other may.1))
 
 -- the world with the frames of the calls is the one after the answer that has them
 answer-frames : (world : World) (answer : orchestrator.Answer) → record world { frames = world.frames ++ reverse (stepwise.frames_in answer) } ≡ (by_answer world answer).world
@@ -162,28 +158,7 @@ forgetting-plain (name ∷ names) = ((λ node e. clash node e), forgetting-plain
 -- nor are goals that are noted
 stopping-plain : (node : List ℕ) (history : History) (names : List (List ℕ)) → AllByRecursion IsNoLoss (filter_map (λ name. orchestrator.stopping node name (goal_of history name)) names)
 stopping-plain node history [] = tt
-stopping-plain node history (name ∷ names) = by (orchestrator.stopping node name (goal_of history name)) (noted (goal_of history name)) (stopping-plain node history names)
-  where
-    rest : List Item
-    rest = filter_map (λ other. orchestrator.stopping node other (goal_of history other)) names
-
-    noted : (goal : Option Goal) → (item : Item) → orchestrator.stopping node name goal ≡ Some item → IsNoLoss item
-    noted (Some (Use usage)) item e = at (same_text usage.node node) e
-      where
-        noted_goal : Item
-        noted_goal = Noted name (Some (Stop usage.node usage.target))
-
-        at : (b : Bool) → cond b (Some noted_goal) None ≡ Some item → IsNoLoss item
-        at true e lost is = absurd (clash (e ∙ ap Some is))
-          where
-            clash : Some (Noted name (Some (Stop usage.node usage.target))) ≡ Some (Lost lost) → ⊥
-            clash h = cc
-        at false e lost is = absurd (none-some item e)
-    noted goal item e = absurd (none-some item e)
-
-    by : (o : Option Item) → ((item : Item) → o ≡ Some item → IsNoLoss item) → AllByRecursion IsNoLoss rest → AllByRecursion IsNoLoss (cons_option o rest)
-    by None plain others = others
-    by (Some item) plain others = (plain item refl, others)
+stopping-plain node history (name ∷ names) = grind (arith, none-some, (stopping-plain node history names))
 
 -- a node is lost, and the orchestrator goes on as it does then
 loses : (world : World) (node : List ℕ) (fault : Option OrchFault) → loss_fault world.history ≡ fault → stepwise.IsReached world.history → stepwise.AreStepwise world.history (orchestrator.Loses node) (orchestrator.lose world.history node fault)
@@ -364,11 +339,7 @@ one-event world (events.RestartOrchestratorWith nodes) law reached = orchestrate
 one-event world events.RestartController law reached = record { comes = stays world 3; reached = reached }
 one-event world (events.RestartControllerWith config) law reached =
     record { comes = record { choices = Configures config ∷ []; may = (tt, tt); few = omega arith; same_world = refl }; reached = reached }
-one-event world (events.RestartNode node) law reached = by (node_state node world)
-  where
-    by : (o : Option NodeState) → Stepped world (restarted_at world o).world 3
-    by None = record { comes = stays world 3; reached = reached }
-    by (Some state) = record { comes = stays world 3; reached = reached }
+one-event world (events.RestartNode node) law reached = grind (arith, stays)
 one-event world (events.Join node) law reached = by (node_state node world) refl
   where
     by : (o : Option NodeState) → node_state node world ≡ o → Stepped world (joined_at world node o).world 3

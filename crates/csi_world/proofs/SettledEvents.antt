@@ -1,13 +1,13 @@
 -- Events by which a volume comes to rest, one after another.
 use Rattle.csi_world.proofs.Words.{◌≡◌, ℕ, zero, suc, ◌+◌, ◌≤◌, ◌<◌, List, [], ◌∷◌, ◌++◌, length, map, get_or, set}
-use Rattle.csi_world.proofs.Words.{slice_get, Bool, true, false, cond, not, Option, Some, None, ◌||◌, refl, sym, ◌∙◌}
-use Rattle.csi_world.proofs.Words.{ap, subst, append-nil, append_assoc, length-append, arith, list_any, is_some}
-use Rattle.csi_world.proofs.Words.{is_none, nat_lt, option_and_then, Event, Timeout, Deliver, Config, config_fault}
-use Rattle.csi_world.proofs.Words.{NodeParts, same_text, History, goal_of, has_row, RowShown, OrchestratorParts, row_of}
-use Rattle.csi_world.proofs.Words.{goal_in, goal_shown, Shows, World, empty_world, Run, occurs, after, is_at_rest}
-use Rattle.csi_world.proofs.Words.{deliveries, settling, settled, WorldParts, ShowsRun, ShowsWorld, WentOn, IsOfOneMake}
-use Rattle.csi_world.proofs.Words.{IsRun, IsLogged, IsSoundWorld, has_same_id}
-use Rattle.csi_world.proofs.Lemmas.{nat_tests, any-of_map, is_some-map, FirstAt-find, FirstAt-position, find-no_place}
+use Rattle.csi_world.proofs.Words.{slice_get, Bool, true, false, cond, not, Some, None, ◌||◌, refl, sym, ◌∙◌, ap}
+use Rattle.csi_world.proofs.Words.{subst, append-nil, append_assoc, length-append, arith, list_any, is_some, is_none}
+use Rattle.csi_world.proofs.Words.{option_and_then, Event, Timeout, Deliver, Config, NodeParts, same_text, History}
+use Rattle.csi_world.proofs.Words.{goal_of, has_row, RowShown, OrchestratorParts, row_of, goal_in, goal_shown, Shows}
+use Rattle.csi_world.proofs.Words.{World, empty_world, Run, occurs, after, is_at_rest, deliveries, settling, settled}
+use Rattle.csi_world.proofs.Words.{WorldParts, ShowsRun, ShowsWorld, WentOn, IsOfOneMake, IsRun, IsLogged}
+use Rattle.csi_world.proofs.Words.{IsSoundWorld, has_same_id}
+use Rattle.csi_world.proofs.Lemmas.{any-of_map, is_some-map, FirstAt-find, FirstAt-position, find-no_place}
 use Rattle.csi_orchestrator.specs.declared.row.Row.{Row}
 use Rattle.csi_orchestrator.specs.Public.Changed.{place_by_name}
 use Rattle.csi_orchestrator.specs.Public.Shown.{row_shown}
@@ -37,37 +37,11 @@ none-wanted parts history name agrees none =
 
 -- what is wanted is wanted of a name that has a row
 pub wanted-row : (parts : OrchestratorParts) (history : History) (name : List ℕ) → Shows parts history → is_some (goal_of history name) ≡ true → has_row history name ≡ true
-wanted-row parts history name agrees wanted = by (row_of parts.rows name) refl
-  where
-    by : (o : Option RowShown) → row_of parts.rows name ≡ o → has_row history name ≡ true
-    by (Some row) e = sym (agrees.same_rows name) ∙ ap is_some e
-    by None e = absurd (clash (ap (λ r. is_some (option_and_then goal_in r)) (sym e) ∙ ap is_some (agrees.same_goals name) ∙ wanted))
-      where
-        clash : false ≡ true → ⊥
-        clash h = cc
+wanted-row parts history name agrees wanted = grind arith
 
 -- nothing is wanted of a volume at rest
 pub rest-wanted : (world : World) (name : List ℕ) → is_at_rest world name ≡ not (is_some (goal_of world.history name))
-rest-wanted world name = by (goal_of world.history name)
-  where
-    by : {X : Type 0} (o : Option X) → is_none o ≡ not (is_some o)
-    by None = refl
-    by (Some x) = refl
-
--- whether a frame is there
-pub frame-there : {X : Type 0} (xs : List X) (place : ℕ) → is_none (slice_get xs place) ≡ not (nat_lt place (length xs))
-frame-there [] place = below place
-  where
-    below : (n : ℕ) → true ≡ not (nat_lt n 0)
-    below n = grind (arith, nat_tests)
-frame-there (x ∷ xs) zero = above (length xs)
-  where
-    above : (n : ℕ) → false ≡ not (nat_lt 0 (suc n))
-    above n = grind (arith, nat_tests)
-frame-there (x ∷ xs) (suc place) = frame-there xs place ∙ both place (length xs)
-  where
-    both : (m n : ℕ) → not (nat_lt m n) ≡ not (nat_lt (suc m) (suc n))
-    both m n = grind (arith, nat_tests)
+rest-wanted world name = grind arith
 
 -- ---- deliveries
 
@@ -88,19 +62,11 @@ ends_at world name place = is_at_rest world name || is_none (slice_get world.fra
 
 -- none is, where the test says that it doesn't go on
 pub ends-there : (world : World) (name : List ℕ) (place : ℕ) → false ≡ not (ends_at world name place) → ends_at world name place ≡ true
-ends-there world name place e = by (ends_at world name place) e
-  where
-    by : (b : Bool) → false ≡ not b → b ≡ true
-    by true h = refl
-    by false h = h
+ends-there world name place e = grind arith
 
 -- and one is, where it does
 pub goes-there : (world : World) (name : List ℕ) (place : ℕ) → true ≡ not (ends_at world name place) → ends_at world name place ≡ false
-goes-there world name place e = by (ends_at world name place) e
-  where
-    by : (b : Bool) → true ≡ not b → b ≡ false
-    by true h = h
-    by false h = refl
+goes-there world name place e = grind arith
 
 -- at first none was
 pub none-delivered : (config : Config) (events : List Event) (name : List ℕ) (first : ℕ) (shown : WorldParts) → IsRun config events shown → HasDelivered config events name first 0 shown
@@ -264,11 +230,7 @@ by-ids (node ∷ others) = (λ i. sym (any-of_map (same_text node.id) (λ (n : N
 
 -- stay sound
 pub sound-stays : (old new : WorldParts) → IsOfOneMake old new → IsSoundWorld old → IsSoundWorld new
-sound-stays old new make sound =
-    record {
-      apart = by-ids new.nodes ∙ ap comes_twice make.ids ∙ sym (by-ids old.nodes) ∙ sound.apart;
-      fit = subst (λ (c : Config). config_fault c.greatest c.nodes ≡ None) (sym make.config) sound.fit;
-    }
+sound-stays old new make sound = grind (arith, by-ids)
 
 -- ---- in a world
 

@@ -1,9 +1,9 @@
 -- Deliveries of the frames that are sent, one after another; no frame is ever taken out; and which of them are refusals.
 use Rattle.csi_world.proofs.Words.{◌≡◌, ◌⊎◌, ℕ, zero, suc, ◌≤◌, List, [], ◌∷◌, ◌++◌, length, slice_get, Bool, true}
-use Rattle.csi_world.proofs.Words.{false, cond, Some, None, ◌||◌, refl, sym, ◌∙◌, ap, inl, inr, ⊎_elim, arith}
-use Rattle.csi_world.proofs.Words.{append-nil, append_assoc, is_none, Event, Deliver, Body, Frame, is_ok_status}
-use Rattle.csi_world.proofs.Words.{reply_frame, same_text, Usage, Goal, Use, Stop, World, occurs, after_from}
-use Rattle.csi_world.proofs.Words.{is_at_rest, deliveries, WasRefused}
+use Rattle.csi_world.proofs.Words.{false, cond, Some, None, ◌||◌, refl, sym, ◌∙◌, ap, inl, inr, arith, append-nil}
+use Rattle.csi_world.proofs.Words.{append_assoc, is_none, Deliver, Body, Frame, is_ok_status, reply_frame, same_text}
+use Rattle.csi_world.proofs.Words.{Usage, Goal, Use, Stop, World, occurs, after_from, is_at_rest, deliveries}
+use Rattle.csi_world.proofs.Words.{WasRefused}
 use Rattle.csi_world.proofs.Lemmas.{false≢true, none-some, same_Some, same_text-tells}
 use Rattle.csi_types.specs.declared.frame.Body.TheVariants as bodies
 
@@ -19,9 +19,7 @@ final more world name place = (after_from world (deliveries more world name plac
 
 -- where the volume is at rest, none is made
 pub at-end : (more : ℕ) (world : World) (name : List ℕ) (place : ℕ) → is_at_rest world name ≡ true → final more world name place ≡ world
-at-end zero world name place rest = refl
-at-end (suc more) world name place rest =
-    ap (λ b. (after_from world (cond (b || is_none (slice_get world.frames place)) [] (Deliver (suc place) ∷ deliveries more (occurs world (Deliver (suc place))).world name (suc place)))).world) rest
+at-end more world name place rest = grind arith
 
 -- where it isn't, and a frame is there, that one is delivered
 pub goes-on : (more : ℕ) (world : World) (name : List ℕ) (place : ℕ) (frame : Frame) → is_at_rest world name ≡ false → slice_get world.frames place ≡ Some frame
@@ -33,14 +31,7 @@ goes-on more world name place frame wanted framed =
 -- at most so many are made
 pub few-deliveries : (more : ℕ) (world : World) (name : List ℕ) (place : ℕ) → length (deliveries more world name place) ≤ more
 few-deliveries zero world name place = omega arith
-few-deliveries (suc more) world name place = by (is_at_rest world name || is_none (slice_get world.frames place)) (few-deliveries more (occurs world (Deliver (suc place))).world name (suc place))
-  where
-    others : List Event
-    others = deliveries more (occurs world (Deliver (suc place))).world name (suc place)
-
-    by : (b : Bool) → length others ≤ more → length (cond b [] (Deliver (suc place) ∷ others)) ≤ suc more
-    by true few = omega arith
-    by false few = omega (arith, few)
+few-deliveries (suc more) world name place = grind (arith, (few-deliveries more (occurs world (Deliver (suc place))).world name (suc place)))
 
 -- what was added last is found
 pub get-last : {X : Type 0} (xs : List X) (x : X) → slice_get (xs ++ x ∷ []) (length xs) ≡ Some x
@@ -114,11 +105,7 @@ refuses-same old new e = λ sent was.
 
 -- nor where a frame is added that is none
 pub refuses-added : (old new : World) (frame : Frame) → new.frames ≡ old.frames ++ frame ∷ [] → is_no_refusal frame.body ≡ true → RefusesNoMore old new
-refuses-added old new frame e none = λ sent was.
-    ⊎_elim
-    (λ there. record { place = was.place; number = was.number; party = was.party; kind = was.kind; reply = was.reply; is_there = there; since = was.since; refused = was.refused })
-    (λ same. absurd (false≢true (sym was.refused ∙ ap (λ (f : Frame). is_no_refusal f.body) (sym same) ∙ none)))
-    (get-new old.frames frame (reply_frame was.number was.party was.kind was.reply) was.place (ap (λ fs. slice_get fs was.place) (sym e) ∙ was.is_there))
+refuses-added old new frame e none = grind (arith, false≢true, get-new)
 
 -- none was behind the frames that there are
 pub refused-none : (world : World) → WasRefused world (length world.frames) → ⊥

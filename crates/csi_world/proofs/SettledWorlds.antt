@@ -1,12 +1,12 @@
 -- What settles a volume, as the events for which it stands, and runs that are told by these.
-use Rattle.std.proofs.Common.{◌≡◌, ℕ, zero, suc, ◌+◌, List, [], ◌∷◌, ◌++◌, length, Bool, true, false, cond, not, ◌||◌, refl, sym, ◌∙◌, ap, arith}
+use Rattle.std.proofs.Common.{◌≡◌, ℕ, zero, suc, ◌+◌, List, [], ◌∷◌, ◌++◌, length, Bool, true, false, cond, not, ◌||◌, refl, ◌∙◌, ap, arith}
 use Rattle.std.specs.Prelude.{is_none}
 use Rattle.csi_types.specs.declared.event.Event.{Event}
 use Rattle.csi_types.specs.declared.event.Event.TheVariants.{Timeout, Deliver, Settle}
 use Rattle.csi_orchestrator.specs.Model.Readings.{has_row}
 use Rattle.csi_world.specs.declared.outcomes.Outcome.TheVariants as outcomes
 use Rattle.csi_world.specs.Model.World.{World}
-use Rattle.csi_world.specs.Model.After.{Occurred, OnItsWay, frame_numbered, is_at_rest, delivered_on, brought_on, settling_way, occurs, after_from}
+use Rattle.csi_world.specs.Model.After.{OnItsWay, frame_numbered, is_at_rest, delivered_on, brought_on, settling_way, occurs, after_from}
 use Rattle.csi_world.specs.Public.Settling.{deliveries, settling, settled, spelled, spelled_from}
 use Rattle.csi_world.specs.Private.Telling.{counted_deliveries, counted_events}
 
@@ -95,20 +95,7 @@ settled-count world name = by (is_at_rest world name || not (has_row world.histo
 
 -- once the volume is at rest, a schedule's event tells so
 pub rest-told : (world : World) (name : List ℕ) → is_at_rest (settled world name) name ≡ true → occurs world (Settle name) ≡ record { world = settled world name; outcome = outcomes.Settled (length (settling world name)) }
-rest-told world name rest =
-    ap by (ap (λ w. is_at_rest w name) (sym same) ∙ rest) ∙ ap (λ w. told w way.events) (sym same) ∙ ap (told (settled world name)) (sym (settled-count world name))
-  where
-    way : OnItsWay
-    way = settling_way world name
-
-    same : settled world name ≡ way.world
-    same = settled-world world name
-
-    told : World → ℕ → Occurred
-    told w count = record { world = w; outcome = outcomes.Settled count }
-
-    by : Bool → Occurred
-    by b = record { world = way.world; outcome = cond b (outcomes.Settled way.events) (outcomes.NotSettled way.events) }
+rest-told world name rest = grind (arith, settled-count, settled-world, ℕ, Bool)
 
 -- ---- runs
 

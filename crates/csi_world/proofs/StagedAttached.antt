@@ -1,9 +1,9 @@
 -- What stands staged at a node, or may still come to: while anything does, the volume is known to be attached there, in
 -- that capability.
 use Rattle.csi_world.proofs.Words.{◌≡◌, ◌⊎◌, ℕ, List, ◌∷◌, Bool, true, false, cond, Option, Some, ◌==◌, refl, sym, ◌∙◌}
-use Rattle.csi_world.proofs.Words.{ap, subst, inl, inr, ⊎_elim, Capability, Call, Kind, Party, Controller, Node, Reply}
-use Rattle.csi_world.proofs.Words.{PluginView, PluginThing, Attached, Staged, StagedAs, asked, IsAmong, same_text}
-use Rattle.csi_world.proofs.Words.{Issued, Item, Sent, issued_in, is_success_of, has_success, held, Number, Frame}
+use Rattle.csi_world.proofs.Words.{ap, subst, inl, inr, ⊎_elim, Capability, Call, Kind, Party, Node, Reply, PluginView}
+use Rattle.csi_world.proofs.Words.{PluginThing, Attached, Staged, StagedAs, asked, IsAmong, same_text, Issued, Item}
+use Rattle.csi_world.proofs.Words.{Sent, issued_in, is_success_of, has_success, held, Number, Frame, arith}
 use Rattle.csi_world.proofs.Lemmas.{and_parts, and_from, or_right, eqb-true, eq-eqb, false≢true, false_from_ne_true}
 use Rattle.csi_world.proofs.Lemmas.{none-some, same_text-tells}
 use Rattle.csi_types.specs.declared.call.Call.TheVariants as calls
@@ -45,17 +45,7 @@ Stands items view = (id : ℕ) (node : List ℕ) (capability : Capability) → I
 -- a call that a plugin carried out
 staged_by : (name : List ℕ) (party : Party) (c : Call) (reply : Reply) (id : ℕ) (node : List ℕ) (capability : Capability) → is_plugin_thing (Staged id node) (plugin_thing_at name party c) ≡ true → asked c reply ≡ Some (StagedAs capability)
     → (party ≡ Node node) × (c ≡ calls.NodeStageVolume id capability)
-staged_by name (Node here) (calls.NodeStageVolume i other) reply id node capability of asks =
-    let parts = and_parts (id == i) (same_text node here) of in
-    let volume : i ≡ id = sym (eqb-true id i parts.0) in
-    let same : other ≡ capability = one asks in
-    (ap Node (sym ((same_text-tells node here).0 parts.1)), λ n. calls.NodeStageVolume (volume n) (same n))
-  where
-    one : Some (StagedAs other) ≡ Some (StagedAs capability) → other ≡ capability
-    one e = cc
-staged_by name (Node here) (calls.NodeUnstageVolume i) reply id node capability of asks = absurd (none-some (StagedAs capability) asks)
-staged_by name Controller (calls.NodeStageVolume i other) reply id node capability of asks = absurd (false≢true of)
-staged_by name party c reply id node capability of asks = absurd (false≢true of)
+staged_by name party c reply id node capability of asks = grind (arith, and_parts, eqb-true, same_text-tells, none-some, false≢true)
 
 -- whatever stands is attached so after a plugin answered a sent call, since it stood before
 pub stands-answered : (items : List Item) (frames : List Frame) (old new : PluginView) (call : Issued) (thing : PluginThing) (kind : Kind) (reply : Reply)

@@ -6,7 +6,7 @@ use Rattle.csi_world.proofs.Words.{ControllerParts, OrchFault, last_number, IsWe
 use Rattle.csi_world.proofs.Words.{MovesKeepForm, moved_to, FollowsUnrefused, OrchestratorParts, NodeAt, World}
 use Rattle.csi_world.proofs.Words.{node_state, Occurred, joined_at, lost_by, is_node_of, lost, WorldParts}
 use Rattle.csi_world.proofs.Words.{AreNodesShown, ShowsWorld, IsSameController, new_node_parts, IsWorldAfter}
-use Rattle.csi_world.proofs.Words.{IsSoundWorld, has_same_id}
+use Rattle.csi_world.proofs.Words.{IsSoundWorld, has_same_id, arith}
 use Rattle.csi_world.proofs.Lemmas.{FirstAt-position, find-no_place}
 use Rattle.csi_orchestrator.specs.Model.Moves.{Loses}
 use Rattle.csi_world.specs.declared.outcomes.Outcome.TheVariants as outcomes
@@ -31,39 +31,12 @@ first-of id shown place at = FirstAt-position (is_shown_node id) shown place (no
 -- the controller restarts with this configuration
 pub configured : (shown : WorldParts) (config : Config) (new : ControllerParts) (world : World) → IsSoundWorld shown → ShowsWorld shown world → config_fault config.greatest config.nodes ≡ None → IsSameController config shown.controller new
     → IsWorldAfter shown (record shown { config = config; controller = new }) outcomes.Restarted (record { world = record world { config = config }; outcome = outcomes.Restarted })
-configured shown config new world own shows fit same =
-    record {
-      outcomes = refl;
-      own = record { apart = own.apart; fit = fit };
-      world = record {
-        config = refl;
-        frames = shows.frames;
-        controller = same.shown world.controller shows.controller;
-        nodes = shows.nodes;
-        orchestrator = shows.orchestrator;
-        form = shows.form;
-        own_config = same.config;
-      };
-      came = refl;
-    }
+configured shown config new world own shows fit same = grind arith
 
 -- a node joins
 pub node-joins : (shown : WorldParts) (id : List ℕ) (session : ℕ) (world : World) → IsSoundWorld shown → ShowsWorld shown world → position (is_shown_node id) shown.nodes ≡ None → session ≡ (last_number world.history).session
     → IsWorldAfter shown (record shown { nodes = shown.nodes ++ new_node_parts session id ∷ [] }) outcomes.Joined (joined_at world id (node_state id world))
-node-joins shown id session world own shows none is =
-    let now : Occurred = joined_at world id None in
-    at-world shown (record shown { nodes = shown.nodes ++ new_node_parts session id ∷ [] }) outcomes.Joined (joined_at world id (node_state id world)) now.world refl
-    (record { apart = joined-apart session id shown.nodes own.apart (find-no_place (is_shown_node id) shown.nodes none); fit = own.fit })
-    (record {
-      config = shows.config;
-      frames = shows.frames;
-      controller = shows.controller;
-      nodes = subst (λ s. AreNodesShown (shown.nodes ++ new_node_parts s id ∷ []) now.world.nodes) (sym is) (joined-shown (last_number world.history).session id shown.nodes world.nodes shows.nodes);
-      orchestrator = shows.orchestrator;
-      form = shows.form;
-      own_config = shows.own_config;
-    })
-    (ap (joined_at world id) (isnt-there shown id world shows none))
+node-joins shown id session world own shows none is = grind (arith, at-world, joined-apart, find-no_place, is_shown_node, joined-shown, isnt-there)
 
 -- one that is there doesn't
 pub there-joins : (shown : WorldParts) (id : List ℕ) (place : ℕ) (world : World) → IsSoundWorld shown → ShowsWorld shown world → position (is_shown_node id) shown.nodes ≡ Some place

@@ -1,10 +1,10 @@
 -- The nodes of a world: the one of an id, where it stands, and what follows where another is put there.
-use Rattle.csi_world.proofs.Words.{◌≡◌, ℕ, zero, suc, Bool, true, false, cond, not, List, [], ◌∷◌, ◌++◌, length, map}
-use Rattle.csi_world.proofs.Words.{filter, take, drop, Option, Some, None, find, option_map, nat_lt, refl, sym, ◌∙◌, ap}
-use Rattle.csi_world.proofs.Words.{subst, inr, ⊎_elim, set, list_any, remove, IsAmong, FirstAt, Config, has_node}
+use Rattle.csi_world.proofs.Words.{◌≡◌, ℕ, zero, suc, Bool, false, cond, not, List, [], ◌∷◌, ◌++◌, length, map, filter}
+use Rattle.csi_world.proofs.Words.{take, drop, Option, Some, None, find, option_map, nat_lt, refl, sym, ◌∙◌, ap, subst}
+use Rattle.csi_world.proofs.Words.{inr, ⊎_elim, set, list_any, remove, IsAmong, FirstAt, Config, has_node}
 use Rattle.csi_world.proofs.Words.{is_bad_greatest, has_same_node, has_bad_slots, config_fault, same_text, NodeParts}
 use Rattle.csi_world.proofs.Words.{NodeState, NodeAt, new_node, node_id, with_state, AreNodesShown, IsSameNode}
-use Rattle.csi_world.proofs.Words.{new_node_parts, has_same_id, ShowsNode, AreDistinctTexts}
+use Rattle.csi_world.proofs.Words.{new_node_parts, has_same_id, ShowsNode, AreDistinctTexts, arith}
 use Rattle.csi_world.proofs.Lemmas.{or_parts, false≢true, take-append-drop, among-append, among-either, among-joined}
 use Rattle.csi_world.proofs.Lemmas.{among-right, none_passes, some_is_not_none, FirstAt-find, find-missed, alike}
 use Rattle.csi_world.proofs.Lemmas.{any-of_map, any-none, none-among, same_text-tells}
@@ -25,15 +25,7 @@ pub node-shown : (id : List ℕ) (shown : List NodeParts) (nodes : List NodeAt) 
 node-shown id [] [] are = tt
 node-shown id [] (n ∷ ns) are = absurd are
 node-shown id (x ∷ xs) [] are = absurd are
-node-shown id (x ∷ xs) (n ∷ ns) are =
-    by (same_text x.id id) (same_text n.id id) (ap (λ t. same_text t id) (are.0)) (are.1) (node-shown id xs ns (are.2))
-  where
-    by : (a b : Bool) → a ≡ b → NodeShows x n.state → ShowsNode (find (is_shown_node id) xs) (option_map (λ (m : NodeAt). m.state) (find (is_node id) ns))
-        → ShowsNode (cond a (Some x) (find (is_shown_node id) xs)) (option_map (λ (m : NodeAt). m.state) (cond b (Some n) (find (is_node id) ns)))
-    by true true e here rest = here
-    by false false e here rest = rest
-    by true false e here rest = absurd (false≢true (sym e))
-    by false true e here rest = absurd (false≢true e)
+node-shown id (x ∷ xs) (n ∷ ns) are = grind (arith, false≢true, (node-shown id xs ns (are.2)))
 
 -- where the first node of an id is shown, the world's node of the id is shown so
 pub state-shown : (id : List ℕ) (shown : List NodeParts) (nodes : List NodeAt) (i : ℕ) (one : NodeParts) → AreNodesShown shown nodes → FirstAt (is_shown_node id) shown i one
@@ -74,13 +66,6 @@ pub texts-apart : (nodes : List NodeParts) → AreDistinctTexts (map (λ (m : No
 texts-apart [] h = refl
 texts-apart (n ∷ ns) h = rw (sym (any-of_map (same_text n.id) (λ (m : NodeParts). m.id) ns) ∙ h.0) (texts-apart ns h.1)
 
--- what is shown of a world's nodes has their ids
-pub same-ids : (shown : List NodeParts) (nodes : List NodeAt) → AreNodesShown shown nodes → map (λ (m : NodeParts). m.id) shown ≡ map (λ (n : NodeAt). n.id) nodes
-same-ids [] [] are = refl
-same-ids [] (n ∷ ns) are = absurd are
-same-ids (x ∷ xs) [] are = absurd are
-same-ids (x ∷ xs) (n ∷ ns) are = λ i. are.0 i ∷ same-ids xs ns are.2 i
-
 -- the nodes of a configuration without a fault have distinct ids
 none-same : (nodes : List NodeSlots) → has_same_node nodes ≡ false → has_same_id (map (new_node_parts 0) (map node_id nodes)) ≡ false
 none-same [] h = refl
@@ -90,10 +75,7 @@ none-same (n ∷ ns) h =
 
 -- where none of four faults is found, the third isn't there
 fault-none : (a b c d : Bool) → cond a (Some BadGreatest) (cond b (Some TooManyNodes) (cond c (Some SameNode) (cond d (Some BadSlots) None))) ≡ None → c ≡ false
-fault-none true b c d h = absurd (some_is_not_none BadGreatest h)
-fault-none false true c d h = absurd (some_is_not_none TooManyNodes h)
-fault-none false false true d h = absurd (some_is_not_none SameNode h)
-fault-none false false false d h = refl
+fault-none a b c d h = grind (arith, some_is_not_none)
 
 -- so do its new nodes
 pub new-apart : (config : Config) → config_fault config.greatest config.nodes ≡ None → has_same_id (map (new_node_parts 0) (map node_id config.nodes)) ≡ false
@@ -140,18 +122,8 @@ pub state-put : (id : List ℕ) (state : NodeState) (shown : List NodeParts) (no
     → FirstAt (is_shown_node id) shown i old → new.id ≡ old.id → NodeShows new state → AreNodesShown (set shown i new) (map (with_state id state) nodes)
 state-put id state [] nodes i old new are apart first same shows = absurd first
 state-put id state (x ∷ xs) [] i old new are apart first same shows = absurd are
-state-put id state (x ∷ xs) (n ∷ ns) zero old new are apart first same shows =
-    let passes : same_text n.id id ≡ true = ap (λ t. same_text t id) (sym (are.0)) ∙ first.0 in
-    let here : with_state id state n ≡ record n { state = state } = rw passes refl in
-    let own : x.id ≡ id = (same_text-tells x.id id).0 (first.0) in
-    let others : map (with_state id state) ns ≡ ns = none-changed id state xs ns (are.2) (subst (λ t. list_any (same_text t) (map (λ (m : NodeParts). m.id) xs) ≡ false) own (apart.0)) in
-    subst (λ (all : List NodeAt). AreNodesShown (new ∷ xs) all) (λ j. sym here j ∷ sym others j)
-    (same ∙ ap (λ (m : NodeParts). m.id) (sym (first.1)) ∙ are.0, shows, are.2)
-state-put id state (x ∷ xs) (n ∷ ns) (suc i) old new are apart first same shows =
-    let passes : same_text n.id id ≡ false = ap (λ t. same_text t id) (sym (are.0)) ∙ first.0 in
-    let here : with_state id state n ≡ n = rw passes refl in
-    let rest = state-put id state xs ns i old new (are.2) (apart.1) (first.1) same shows in
-    subst (λ (m : NodeAt). AreNodesShown (x ∷ set xs i new) (m ∷ map (with_state id state) ns)) (sym here) (are.0, are.1, rest)
+state-put id state (x ∷ xs) (n ∷ ns) zero old new are apart first same shows = grind (arith, same_text-tells, none-changed)
+state-put id state (x ∷ xs) (n ∷ ns) (suc i) old new are apart first same shows = grind (arith, (state-put id state xs ns i old new (are.2) (apart.1) (first.1) same shows))
 
 -- ---- nodes that join
 
@@ -186,11 +158,7 @@ pub lost-shown : (id : List ℕ) (shown : List NodeParts) (nodes : List NodeAt) 
     → AreNodesShown (remove shown i) (filter (λ (n : NodeAt). not (same_text n.id id)) nodes)
 lost-shown id [] nodes i old are apart first = absurd first
 lost-shown id (x ∷ xs) [] i old are apart first = absurd are
-lost-shown id (x ∷ xs) (n ∷ ns) zero old are apart first =
-    let passes : same_text n.id id ≡ true = ap (λ t. same_text t id) (sym are.0) ∙ first.0 in
-    let own : x.id ≡ id = (same_text-tells x.id id).0 first.0 in
-    let none = subst (λ t. list_any (same_text t) (map (λ (m : NodeParts). m.id) xs) ≡ false) own apart.0 in
-    rw passes (subst (AreNodesShown xs) (sym (none-taken id xs ns are.2 none)) are.2)
+lost-shown id (x ∷ xs) (n ∷ ns) zero old are apart first = grind (arith, same_text-tells, none-taken)
 lost-shown id (x ∷ xs) (n ∷ ns) (suc i) old are apart first =
     let other : same_text n.id id ≡ false = ap (λ t. same_text t id) (sym are.0) ∙ first.0 in
     rw other (are.0, are.1, lost-shown id xs ns i old are.2 apart.1 first.1)

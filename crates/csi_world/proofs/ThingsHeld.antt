@@ -8,7 +8,7 @@ use Rattle.csi_world.proofs.Words.{published_shown, Thing, NodeLists, NodeAt, Wo
 use Rattle.csi_world.proofs.Words.{holds_staged, holds_published, AreRowsApart, Lists, node_listed, IsNodeAlike}
 use Rattle.csi_world.proofs.Words.{IsListed, controller_row_with_id, exists_thing, attached_thing, things_of}
 use Rattle.csi_world.proofs.Words.{staged_things, staged_thing, published_things, published_thing, things_at}
-use Rattle.csi_world.proofs.Words.{things_listed}
+use Rattle.csi_world.proofs.Words.{things_listed, arith}
 use Rattle.csi_world.proofs.Lemmas.{and_parts, and_from, eqb-true, eq-eqb, false≢true, none-some, among-append}
 use Rattle.csi_world.proofs.Lemmas.{among-filter, among-find, in_filter, among-joined, among-one, among-flat, in-flat}
 use Rattle.csi_world.proofs.Lemmas.{among-right, among-map, in-map, among-by_key, find-passes, find-of_map}
@@ -25,11 +25,7 @@ use Rattle.csi_world.proofs.ListedNodes.{listed-of, node-of, node-found-by-id}
 only-found : {X : Type 0} (p : X → Bool) (xs : List X) (x : X) → AtMostOne p xs → IsAmong x xs → p x ≡ true → find p xs ≡ Some x
 only-found p [] x one among passes = absurd among
 only-found p (y ∷ ys) x one (inl e) passes = let own : p y ≡ true = ap p (sym e) ∙ passes in rw own (ap Some (sym e))
-only-found p (y ∷ ys) x one (inr there) passes = by (p y) refl (only-found p ys x one.1 there passes)
-  where
-    by : (b : Bool) → p y ≡ b → find p ys ≡ Some x → cond b (Some y) (find p ys) ≡ Some x
-    by true e found = let none : None ≡ Some x = sym (one.0 e) ∙ found in absurd (none-some x none)
-    by false e found = found
+only-found p (y ∷ ys) x one (inr there) passes = grind (arith, none-some, (only-found p ys x one.1 there passes))
 
 -- the lists of a world's plugins
 module _ (lists : Lists) (world : World) (is : IsListed lists world) (kept : AreRowsApart lists.rows) where

@@ -1,7 +1,7 @@
 -- Events that are told one by one.
-use Rattle.csi_world.proofs.Words.{◌≡◌, ℕ, suc, ◌+◌, List, [], ◌∷◌, ◌++◌, sym, ◌∙◌, ap, subst, append-nil, append_assoc}
-use Rattle.csi_world.proofs.Words.{arith, Event, Timeout, Deliver, Config, World, empty_world, Run, occurs, after_from}
-use Rattle.csi_world.proofs.Words.{after, spelled, spelled_from, spelled_out, WorldParts, IsRun, IsAt, counted_events}
+use Rattle.csi_world.proofs.Words.{◌≡◌, ℕ, suc, ◌+◌, List, [], ◌∷◌, ◌++◌, sym, ◌∙◌, ap, append-nil, append_assoc}
+use Rattle.csi_world.proofs.Words.{arith, Event, Timeout, Deliver, Config, World, empty_world, occurs, after_from}
+use Rattle.csi_world.proofs.Words.{after, spelled, spelled_from, spelled_out, WorldParts, IsAt, counted_events}
 use Rattle.csi_world.proofs.SimulatedRuns.{after-more}
 use Rattle.csi_world.proofs.SettledWorlds.{counted-more, all-spelled}
 
@@ -38,18 +38,10 @@ spelled-more world (x ∷ xs) event =
     ap (λ es. spelled world x ++ es) (spelled-more (occurs world x).world xs event)
     ∙ sym (append_assoc (spelled world x) (spelled_from (occurs world x).world xs) (spelled (after_from (occurs world x).world xs).world event))
 
--- at first
-pub told-none : (config : Config) (shown : WorldParts) (told : List Event) → IsRun config [] shown → told ≡ [] → IsToldTo config [] shown told
-told-none config shown told run none = record { at = record { own = run.own; shows = run.shows.world }; same = none }
-
 -- an event is told
 pub told-next : (config : Config) (events : List Event) (event : Event) (mid new : WorldParts) (before told : List Event) → ((world : World) → IsAt mid world → IsAt new (occurs world event).world)
     → ((world : World) → IsAt mid world → told ≡ before ++ spelled world event) → IsToldTo config events mid before → IsToldTo config (events ++ event ∷ []) new told
-told-next config events event mid new before told went more was =
-    record {
-      at = subst (IsAt new) (ap (λ (r : Run). r.world) (sym (after-more (empty_world config) events event))) (went (after config events).world was.at);
-      same = more (after config events).world was.at ∙ ap (λ es. es ++ spelled (after config events).world event) was.same ∙ sym (spelled-more (empty_world config) events event);
-    }
+told-next config events event mid new before told went more was = grind (arith, after-more, spelled-more)
 
 -- what was told leads to the same world
 pub told-same : (config : Config) (events told : List Event) → told ≡ spelled_out config events → (after config told).world ≡ (after config events).world

@@ -2,10 +2,10 @@
 pub use Rattle.std.proofs.Common.{Bool, Err, IfErr, IfOk, IsSome, IsTrue, List, None, Ok, OnErr, Option, Result, Some}
 pub use Rattle.std.proofs.Common.{[], ap, append-nil, append_assoc, arith, cond, drop, false, filter, filter_map, find}
 pub use Rattle.std.proofs.Common.{get_or, if◌then◌else◌, inl, inr, is_some, length, length-append, map, nat_lt, not}
-pub use Rattle.std.proofs.Common.{option_map, position, refl, replicate, reverse, set, slice_get, subst, suc, sym, take}
-pub use Rattle.std.proofs.Common.{true, zero, ℕ, ⊎_elim, ◌&&◌, ◌++◌, ◌+◌, ◌-◌, ◌<◌, ◌==◌, ◌^◌, ◌||◌, ◌↔◌, ◌∙◌, ◌∷◌, ◌≡◌}
-pub use Rattle.std.proofs.Common.{◌≢◌, ◌≤◌, ◌⊎◌}
-pub use Rattle.std.specs.List.{AllByRecursion, cons_option, flat_map, list_all, list_any, remove}
+pub use Rattle.std.proofs.Common.{option_map, position, refl, replicate, reverse, set, slice_get, subst, suc, sym}
+pub use Rattle.std.proofs.Common.{take, true, zero, ℕ, ⊎_elim, ◌&&◌, ◌++◌, ◌+◌, ◌-◌, ◌<◌, ◌==◌, ◌^◌, ◌||◌, ◌↔◌, ◌∙◌}
+pub use Rattle.std.proofs.Common.{◌∷◌, ◌≡◌, ◌≢◌, ◌≤◌, ◌⊎◌}
+pub use Rattle.std.specs.List.{AllByRecursion, flat_map, list_all, list_any, remove}
 pub use Rattle.std.specs.Option.{option_or, option_to_list}
 pub use Rattle.std.specs.Prelude.{codes, is_none, nat_le, option_and_then}
 pub use Rattle.csi_lists.specs.Model.Members.{EachTwo, IsAmong}
@@ -25,15 +25,14 @@ pub use Rattle.csi_types.specs.declared.rows.TheConstants.{MAX_ROWS}
 pub use Rattle.csi_types.specs.declared.status.Status.{Status}
 pub use Rattle.csi_types.specs.declared.status.Status.TheVariants.{ResourceExhausted, Unimplemented}
 pub use Rattle.csi_types.specs.Model.Call.{kind_of}
-pub use Rattle.csi_types.specs.Model.Capacity.{capacity_wanted, is_bad_range, is_empty_range}
+pub use Rattle.csi_types.specs.Model.Capacity.{capacity_wanted}
 pub use Rattle.csi_types.specs.Model.Config.{Config, has_node}
 pub use Rattle.csi_types.specs.Model.Frame.{Frame}
-pub use Rattle.csi_types.specs.Model.Holding.{AreApart, is_compatible, same_holding}
+pub use Rattle.csi_types.specs.Model.Holding.{AreApart}
 pub use Rattle.csi_types.specs.Model.Number.{IsBefore, is_before}
 pub use Rattle.csi_types.specs.Model.Replies.{call_frame, ok_reply_with, plain_reply, reply_frame, stale_reply}
 pub use Rattle.csi_types.specs.Model.Reply.{is_ok_status}
-pub use Rattle.csi_types.specs.Model.Same.{has_capability, same_capability, same_flag, same_kind, same_number}
-pub use Rattle.csi_types.specs.Model.Same.{same_party, same_text}
+pub use Rattle.csi_types.specs.Model.Same.{same_capability, same_kind, same_number, same_party, same_text}
 pub use Rattle.csi_types.specs.Public.Config.{config_fault, has_bad_slots, has_same_node, is_bad_greatest}
 pub use Rattle.csi_types.specs.Public.PluginThing.{Attached, AttachedAs, Exists, HasId, PluginThing, Published}
 pub use Rattle.csi_types.specs.Public.PluginThing.{PublishedAs, Staged, StagedAs, ThingForm, asked, same_plugin_thing}
@@ -41,8 +40,8 @@ pub use Rattle.csi_types.specs.Public.Reply.{has_id_by_rule}
 pub use Rattle.csi_fence.specs.Model.Fence.{Kept, begins, is_over, is_spent}
 pub use Rattle.csi_fence.specs.Model.Fenced.{Fenced, Machine, answered_in, answered_only, fenced_call, fenced_parts}
 pub use Rattle.csi_fence.specs.Model.Fenced.{in_session, judged, unanswered}
-pub use Rattle.csi_fence.specs.Public.Delivery.{Acts, CallBecomes, Delivery, IsClosed, IsDelivered, IsEmpty, IsSameView}
-pub use Rattle.csi_fence.specs.Public.Delivery.{Misses, PluginView, Rests, kept_of, last_of}
+pub use Rattle.csi_fence.specs.Public.Delivery.{Acts, CallBecomes, Delivery, IsClosed, IsDelivered, IsEmpty}
+pub use Rattle.csi_fence.specs.Public.Delivery.{IsSameView, Misses, PluginView, Rests, kept_of, last_of}
 pub use Rattle.csi_controller.specs.declared.row.ControllerRow.{ControllerRow}
 pub use Rattle.csi_controller.specs.declared.row.NodeHolding.{NodeHolding}
 pub use Rattle.csi_controller.specs.Model.Core.{ControllerParts}
@@ -50,7 +49,7 @@ pub use Rattle.csi_controller.specs.Model.Shown.{holdings_in, holdings_in_row, v
 pub use Rattle.csi_controller.specs.Model.State.{ControllerState, Volume, empty_controller, holding_at, holdings_of}
 pub use Rattle.csi_controller.specs.Model.State.{is_held_at, is_row_for, live_volume, row_for, volume_named}
 pub use Rattle.csi_controller.specs.Model.Table.{ended_volume}
-pub use Rattle.csi_controller.specs.Public.Safe.{ControllerSafetyLaw, IsExclusiveState}
+pub use Rattle.csi_controller.specs.Public.Safe.{IsExclusiveState}
 pub use Rattle.csi_controller.specs.Public.State.{volume_with_id}
 pub use Rattle.csi_node.specs.Model.Record.{NodeParts}
 pub use Rattle.csi_node.specs.Model.State.{AnsweredVolume, NodeState, PublishedVolume, StagedVolume, is_published_at}
@@ -65,11 +64,11 @@ pub use Rattle.csi_orchestrator.specs.declared.request.Usage.{Usage}
 pub use Rattle.csi_orchestrator.specs.declared.thing.Known.{Known}
 pub use Rattle.csi_orchestrator.specs.declared.thing.Known.TheVariants.{Maybe, No, Yes}
 pub use Rattle.csi_orchestrator.specs.declared.thing.Thing.{Thing}
-pub use Rattle.csi_orchestrator.specs.Model.Commands.{create_fault, delete_busy_fault, delete_fault, loss_fault}
-pub use Rattle.csi_orchestrator.specs.Model.Commands.{next_number, restart_fault, stop_fault, timeout_fault, use_fault}
+pub use Rattle.csi_orchestrator.specs.Model.Commands.{create_fault, delete_fault, loss_fault, next_number}
+pub use Rattle.csi_orchestrator.specs.Model.Commands.{restart_fault, stop_fault, timeout_fault, use_fault}
 pub use Rattle.csi_orchestrator.specs.Model.Commands.{use_room_fault}
 pub use Rattle.csi_orchestrator.specs.Model.Due.{Due, call_for, due_call, due_for, due_kind, due_leave, due_stop}
-pub use Rattle.csi_orchestrator.specs.Model.Due.{published_target, targets_in_use}
+pub use Rattle.csi_orchestrator.specs.Model.Due.{targets_in_use}
 pub use Rattle.csi_orchestrator.specs.Model.History.{Accepted, Closed, Create, Delete, Forgotten, Goal, Held, History}
 pub use Rattle.csi_orchestrator.specs.Model.History.{Item, Lost, Noted, Sent, Started, Stop, Use, new_history}
 pub use Rattle.csi_orchestrator.specs.Model.History.{with_items}
@@ -79,16 +78,16 @@ pub use Rattle.csi_orchestrator.specs.Model.Moves.{delete_when, deliver, forgett
 pub use Rattle.csi_orchestrator.specs.Model.Moves.{is_forgotten, is_forward, is_forward_due, is_number_open, lose}
 pub use Rattle.csi_orchestrator.specs.Model.Moves.{met_already, moves, restart, send_due, sent_as, stopping}
 pub use Rattle.csi_orchestrator.specs.Model.Moves.{stopping_all, timeout, undoing_goal, use_when}
-pub use Rattle.csi_orchestrator.specs.Model.Readings.{calls_since, distinct, goal_of, has_row, has_success, held}
-pub use Rattle.csi_orchestrator.specs.Model.Readings.{held_by_call, id_by, id_in, id_of, is_forgetting, is_success_of}
-pub use Rattle.csi_orchestrator.specs.Model.Readings.{issued_by, issued_in, issued_of, issued_since, known, known_by}
-pub use Rattle.csi_orchestrator.specs.Model.Readings.{last_in, last_number, lifetime, names_of, newest, nodes_of}
-pub use Rattle.csi_orchestrator.specs.Model.Readings.{open_call, open_in, since, tries, with_name}
+pub use Rattle.csi_orchestrator.specs.Model.Readings.{calls_since, goal_of, has_row, has_success, held, held_by_call}
+pub use Rattle.csi_orchestrator.specs.Model.Readings.{id_by, id_in, id_of, is_forgetting, is_success_of, issued_by}
+pub use Rattle.csi_orchestrator.specs.Model.Readings.{issued_in, issued_since, known, known_by, last_in, last_number}
+pub use Rattle.csi_orchestrator.specs.Model.Readings.{lifetime, names_of, newest, nodes_of, open_call, open_in, since}
+pub use Rattle.csi_orchestrator.specs.Model.Readings.{tries, with_name}
 pub use Rattle.csi_orchestrator.specs.Model.Shown.{NodeEntryShown, OrchestratorParts, RowShown, Shows, goal_in}
 pub use Rattle.csi_orchestrator.specs.Model.Shown.{goal_shown, mark_in, mark_of, node_entry_of, publication_known}
 pub use Rattle.csi_orchestrator.specs.Model.Shown.{row_of}
-pub use Rattle.csi_orchestrator.specs.Model.Thing.{Issued, does, is_doing, is_no, is_thing, is_yes, name_in, same_thing}
-pub use Rattle.csi_orchestrator.specs.Model.Thing.{thing_at, thing_of, touches}
+pub use Rattle.csi_orchestrator.specs.Model.Thing.{Issued, does, is_doing, is_no, is_thing, is_yes, name_in}
+pub use Rattle.csi_orchestrator.specs.Model.Thing.{same_thing, thing_at, touches}
 pub use Rattle.csi_orchestrator.specs.Model.WellFormed.{AreWellFormed, IsWellFormed}
 pub use Rattle.csi_orchestrator.specs.Public.Guards.{IsGuarded}
 pub use Rattle.csi_orchestrator.specs.Public.Laws.{MovesKeepForm}
@@ -98,8 +97,8 @@ pub use Rattle.csi_orchestrator.specs.Public.Promises.{FollowsUnrefused}
 pub use Rattle.csi_orchestrator.specs.Public.RowMoves.{IsRefusal, MovedRows}
 pub use Rattle.csi_orchestrator.specs.Public.Stale.{call_answered, is_aborted, is_stale_body, is_stale_reply}
 pub use Rattle.csi_orchestrator.specs.Public.Steady.{AreMarked, AreSteadyRows, AreSteadyRowsIf, HasMarks, HasOne}
-pub use Rattle.csi_orchestrator.specs.Public.Steady.{IsAtRest, IsAtWork, IsLeftSo, IsStanding, IsStandingIf}
-pub use Rattle.csi_orchestrator.specs.Public.Steady.{IsSteadyRow, IsSteadyRowIf}
+pub use Rattle.csi_orchestrator.specs.Public.Steady.{IsAtRest, IsAtWork, IsStanding, IsStandingIf, IsSteadyRow}
+pub use Rattle.csi_orchestrator.specs.Public.Steady.{IsSteadyRowIf}
 pub use Rattle.csi_orchestrator.specs.Public.Steps.{AreStepwise, Begins, IsReached, IsStepwise, MayDoAll, MayForget}
 pub use Rattle.csi_orchestrator.specs.Public.Steps.{MovesLaw, frame_of}
 pub use Rattle.csi_world.specs.declared.auditing.lists.NodeLists.{NodeLists}

@@ -3,7 +3,7 @@
 use Rattle.csi_world.proofs.Words.{◌≡◌, ◌⊎◌, ℕ, List, Bool, true, false, Option, Some, None, IsTrue, refl, sym, subst}
 use Rattle.csi_world.proofs.Words.{inl, Number, Party, Controller, Node, PluginView, Delivery, Acts, Rests, Misses}
 use Rattle.csi_world.proofs.Words.{IsSameView, IsClosed, kept_of, PluginThing, IsBefore, same_party, NodeState, is_over}
-use Rattle.csi_world.proofs.Words.{World, node_state}
+use Rattle.csi_world.proofs.Words.{World, node_state, arith}
 use Rattle.csi_world.proofs.Lemmas.{same_party-tells}
 use Rattle.csi_controller.specs.Public.View as controllers
 use Rattle.csi_node.specs.Public.View as nodes
@@ -53,11 +53,7 @@ ChangesOnly party old new = (other : Party) → same_party other party ≡ false
 pub for_each : (P : PluginView → PluginView → PluginThing → Type 0) (party : Party) (old new : World) → ChangesOnly party old new → (thing : PluginThing)
     → P (plugin_view old party) (plugin_view new party) thing → ((view : PluginView) → P view view thing)
     → P (plugin_view old (party_of thing)) (plugin_view new (party_of thing)) thing
-for_each P party old new only thing its same = by (same_party (party_of thing) party) refl
-  where
-    by : (b : Bool) → same_party (party_of thing) party ≡ b → P (plugin_view old (party_of thing)) (plugin_view new (party_of thing)) thing
-    by true e = subst (λ p. P (plugin_view old p) (plugin_view new p) thing) (sym ((same_party-tells (party_of thing) party).0 e)) its
-    by false e = subst (λ view. P (plugin_view old (party_of thing)) view thing) (sym (only (party_of thing) e)) (same (plugin_view old (party_of thing)))
+for_each P party old new only thing its same = grind (arith, party_of, same_party-tells)
 
 -- a call that acts on a thing of one plugin, while the others are as they were, acts so in the world
 pub acts-all : (old new : World) (thing : PluginThing) (delivery : Delivery) → ChangesOnly (party_of thing) old new
@@ -106,12 +102,4 @@ misses-all party old new delivery only misses =
 -- what came before a spent number is spent
 pub closed-all : (controller : (world : World) → IsClosed (controllers.view_of world.controller)) → (node : (id : List ℕ) (state : NodeState) → IsClosed (nodes.view_of id state))
     → (world : World) → IsClosed (view_of world)
-closed-all controller node world = λ thing earlier later before. by (party_of thing) thing earlier later before
-  where
-    by : (party : Party) (thing : PluginThing) (earlier later : Number) → IsBefore earlier later → IsTrue ((plugin_view world party).is_spent thing later) → IsTrue ((plugin_view world party).is_spent thing earlier)
-    by Controller thing earlier later before = controller world thing earlier later before
-    by (Node id) thing earlier later before = at (node_state id world)
-      where
-        at : (o : Option NodeState) → IsTrue ((node_view id (over_at world) o).is_spent thing later) → IsTrue ((node_view id (over_at world) o).is_spent thing earlier)
-        at None h = over-before (over_at world thing) earlier later before h
-        at (Some state) h = node id state thing earlier later before h
+closed-all controller node world = grind (arith, party_of, over-before)
