@@ -1,5 +1,5 @@
 // Package identities knows which volume of a plugin's record is which of the driver behind it, whose ids are texts; and the texts that are too long for
-// the plugins, which have a digest in their place. docs/UPSTREAM.md, "Ids" and "What the books have no room for".
+// the plugins, which have a digest in their place. docs/UPSTREAM.md, "Ids" and "What the ledger has no room for".
 package identities
 
 import (

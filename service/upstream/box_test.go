@@ -78,7 +78,7 @@ func (box *box) driver() (life.Driver, error) {
 	it := life.Driver{
 		Program: "csi-driver", Maker: plugin.Maker{IsController: true, Name: []byte(box.config)}, Numbering: life.ByArrival, Upstream: proxy,
 		Open: func(ctx context.Context) (store.Store, error) {
-			kept, err := store.OpenKeeper(ctx, filepath.Join(box.folder, "books.db"))
+			kept, err := store.OpenKeeper(ctx, filepath.Join(box.folder, "ledger.db"))
 			if err != nil {
 				return nil, err
 			}
@@ -87,7 +87,7 @@ func (box *box) driver() (life.Driver, error) {
 		Doors: []life.Door{{Address: socket, Listen: func() (net.Listener, error) { return driver.Listen(socket) }}},
 	}
 	if box.options.Node != "" {
-		it.Maker, it.Notes = plugin.Maker{Name: []byte(box.options.Node)}, filepath.Join(box.folder, "books.db.driver")
+		it.Maker, it.Notes = plugin.Maker{Name: []byte(box.options.Node)}, filepath.Join(box.folder, "ledger.db.driver")
 	}
 	if box.metadata {
 		it.Numbering = life.ByMetadata(0)

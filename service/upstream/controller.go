@@ -132,7 +132,7 @@ func (proxy *Proxy) attach(call *call) (serving.Request, error) {
 	return request, fit.err
 }
 
-// adopt has a volume made in the books that the upstream has, in the capability in which it is attached.
+// adopt has a volume made in the ledger that the upstream has, in the capability in which it is attached.
 func adopt(id string, before uint64, body frames.ControllerPublishVolume, table *identities.Table) (frames.CreateVolume, []store.Text) {
 	name := identities.Adopted(id, frames.MaxName)
 	made := frames.CreateVolume{Name: name.Text, Required: noRange, Capabilities: []frames.Capability{body.Capability}}

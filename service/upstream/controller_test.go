@@ -75,7 +75,7 @@ func TestRefused(t *testing.T) {
 	box.attached(id, long)
 }
 
-// An upstream's error is given back as it is, with its details; the books then have what may be there, and the repeat asks again.
+// An upstream's error is given back as it is, with its details; the ledger then has what may be there, and the repeat asks again.
 func TestFailed(t *testing.T) {
 	box, ctx := newBox(t, upstream.Options{}).start(), soon(t)
 	id := box.made(ctx, "v", writer)

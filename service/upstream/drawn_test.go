@@ -46,7 +46,7 @@ type drawn struct {
 }
 
 // 16 clients make drawn calls, while driver and upstream are killed: the upstream is never told to attach a volume twice; each response is the upstream's,
-// byte for byte; what is attached there the books have, and what they have besides was under way; and where that is asked for again both are the same.
+// byte for byte; what is attached there the ledger has, and what it has besides was under way; and where that is asked for again both are the same.
 func TestDrawn(t *testing.T) {
 	count := 800
 	if testing.Short() {
@@ -208,8 +208,8 @@ func (drawn *drawn) creates(ctx context.Context, name, tag string) (string, bool
 	return made.GetVolume().GetVolumeId(), true
 }
 
-// books are what the driver lists, of each volume the nodes.
-func (drawn *drawn) books() map[string][]string {
+// ledger is what the driver lists, of each volume the nodes.
+func (drawn *drawn) ledger() map[string][]string {
 	drawn.Helper()
 	ctx, cancel := context.WithTimeout(context.Background(), within)
 	defer cancel()
@@ -235,7 +235,7 @@ func (drawn *drawn) books() map[string][]string {
 	return found
 }
 
-// compare compares the books with the upstream, has what was under way asked for again, and compares them once more.
+// compare compares the ledger with the upstream, has what was under way asked for again, and compares them once more.
 func (drawn *drawn) compare() {
 	drawn.Helper()
 	drawn.behind.Set(nil)
@@ -243,29 +243,29 @@ func (drawn *drawn) compare() {
 	if wrong := drawn.behind.Wrong(); len(wrong) > 0 {
 		drawn.Fatalf("the upstream was told what must not be: %q", wrong)
 	}
-	books, there := drawn.books(), drawn.behind.Attached()
+	ledger, there := drawn.ledger(), drawn.behind.Attached()
 	for id, nodes := range there {
 		for _, node := range nodes {
-			if !has(books[id], node) {
-				drawn.Errorf("%q is attached at %s, and the books don't have it", id, node)
+			if !has(ledger[id], node) {
+				drawn.Errorf("%q is attached at %s, and the ledger doesn't have it", id, node)
 			}
 		}
 	}
-	for id, nodes := range books {
+	for id, nodes := range ledger {
 		for _, node := range nodes {
 			if !has(there[id], node) && !drawn.maybe[id+" "+node] {
-				drawn.Errorf("the books have %q at %s, where it isn't, and nothing was under way", id, node)
+				drawn.Errorf("the ledger has %q at %s, where it isn't, and nothing was under way", id, node)
 			}
 		}
 	}
-	drawn.settle(books, there)
-	if books, there = drawn.books(), drawn.behind.Attached(); !reflect.DeepEqual(books, there) {
-		drawn.Errorf("the books have %v, and the upstream has %v", books, there)
+	drawn.settle(ledger, there)
+	if ledger, there = drawn.ledger(), drawn.behind.Attached(); !reflect.DeepEqual(ledger, there) {
+		drawn.Errorf("the ledger has %v, and the upstream has %v", ledger, there)
 	}
 }
 
-// settle asks again for what was under way, until the books and the upstream have to be the same.
-func (drawn *drawn) settle(books, there map[string][]string) {
+// settle asks again for what was under way, until the ledger and the upstream have to be the same.
+func (drawn *drawn) settle(ledger, there map[string][]string) {
 	drawn.Helper()
 	ctx, cancel := context.WithTimeout(context.Background(), within)
 	defer cancel()
@@ -278,7 +278,7 @@ func (drawn *drawn) settle(books, there map[string][]string) {
 		}
 	}
 	drawn.session()
-	for id, nodes := range books {
+	for id, nodes := range ledger {
 		for _, node := range nodes {
 			if !has(there[id], node) {
 				settles(detachCall, detaches(id, node))

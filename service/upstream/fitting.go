@@ -12,8 +12,8 @@ import (
 )
 
 const (
-	mostText = 4096 // of a text that the books have, or keep beside them
-	noRange  = 1    // the bytes that the books have of a volume for which no range was asked
+	mostText = 4096 // of a text that the ledger has, or keeps beside it
+	noRange  = 1    // the bytes that the ledger has of a volume for which no range was asked
 )
 
 // A fitting judges the fields of a request that the plugin has to know, and says what it has of them. It remembers the first fault.

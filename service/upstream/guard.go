@@ -28,7 +28,7 @@ type call struct {
 	asked      proto.Message // what is known of it, once it is read
 }
 
-// undoes gives the volume of a controller's call that undoes something: nobody's, where the books don't have it. By arrival the plugin isn't asked then.
+// undoes gives the volume of a controller's call that undoes something: nobody's, where the ledger doesn't have it. By arrival the plugin isn't asked then.
 func (call *call) undoes(view serving.View, id string) (volume uint64, asks bool) {
 	if volume, there := view.Table().ID(id); there {
 		return volume, true

@@ -23,7 +23,7 @@ const (
 	probeCall        = "/csi.v1.Identity/Probe"
 )
 
-// What the books can tell where an upstream can't.
+// What the ledger can tell where an upstream can't.
 var told = []wire.ControllerServiceCapability_RPC_Type{
 	wire.ControllerServiceCapability_RPC_LIST_VOLUMES, wire.ControllerServiceCapability_RPC_LIST_VOLUMES_PUBLISHED_NODES,
 	wire.ControllerServiceCapability_RPC_GET_VOLUME,
@@ -91,7 +91,7 @@ func (server *server) probe(ctx context.Context, request []byte) (passing.Respon
 // notReady is a ProbeResponse whose ready is false: field 1, a message without fields.
 var notReady = []byte{0x0a, 0x00}
 
-// tellCapabilities adds to the upstream's capabilities those of the books.
+// tellCapabilities adds to the upstream's capabilities those of the ledger.
 func (server *server) tellCapabilities(ctx context.Context, request []byte) (passing.Response, error) {
 	response, err := server.pass(ctx, capabilitiesCall, request)
 	if err != nil {
@@ -129,8 +129,8 @@ func (server *server) has(ctx context.Context, it wire.ControllerServiceCapabili
 	return has, nil
 }
 
-// list lists volumes: by the upstream where it tells at which nodes they are published; with the books' nodes added where it only lists them; and else by
-// the books.
+// list lists volumes: by the upstream where it tells at which nodes they are published; with the ledger's nodes added where it only lists them; and else by
+// the ledger.
 func (server *server) list(ctx context.Context, raw []byte) (passing.Response, error) {
 	hasNodes, err := server.has(ctx, wire.ControllerServiceCapability_RPC_LIST_VOLUMES_PUBLISHED_NODES)
 	if err != nil {
@@ -151,7 +151,7 @@ func (server *server) list(ctx context.Context, raw []byte) (passing.Response, e
 	if err := proto.Unmarshal(raw, &request); err != nil {
 		return passing.Response{}, status.Error(codes.Internal, "the request isn't one of this call")
 	}
-	listed, err := server.listBooks(ctx, &request)
+	listed, err := server.listLedger(ctx, &request)
 	if err != nil {
 		return passing.Response{}, err
 	}
@@ -159,8 +159,8 @@ func (server *server) list(ctx context.Context, raw []byte) (passing.Response, e
 	return passing.Response{Message: message}, err
 }
 
-// listBooks lists what the books have of the upstream's volumes, by rising id of the plugin's, from the one on that the token says.
-func (server *server) listBooks(ctx context.Context, request *wire.ListVolumesRequest) (*wire.ListVolumesResponse, error) {
+// listLedger lists what the ledger has of the upstream's volumes, by rising id of the plugin's, from the one on that the token says.
+func (server *server) listLedger(ctx context.Context, request *wire.ListVolumesRequest) (*wire.ListVolumesResponse, error) {
 	from, most := uint64(0), int(request.GetMaxEntries())
 	if request.GetMaxEntries() < 0 {
 		return nil, status.Error(codes.InvalidArgument, "max_entries")
@@ -193,7 +193,7 @@ func (server *server) listBooks(ctx context.Context, request *wire.ListVolumesRe
 	return listed, err
 }
 
-// addNodes adds to the entries of a list the nodes that the books have.
+// addNodes adds to the entries of a list the nodes that the ledger has.
 func (server *server) addNodes(ctx context.Context, response *passing.Response) error {
 	var listed wire.ListVolumesResponse
 	if err := proto.Unmarshal(response.Message, &listed); err != nil {
@@ -217,7 +217,7 @@ func (server *server) addNodes(ctx context.Context, response *passing.Response) 
 	return err
 }
 
-// get tells of one volume, by the upstream or by the books.
+// get tells of one volume, by the upstream or by the ledger.
 func (server *server) get(ctx context.Context, raw []byte) (passing.Response, error) {
 	has, err := server.has(ctx, wire.ControllerServiceCapability_RPC_GET_VOLUME)
 	if err != nil {
@@ -248,7 +248,7 @@ func (server *server) get(ctx context.Context, raw []byte) (passing.Response, er
 	return passing.Response{Message: message}, err
 }
 
-// look has a look at the books.
+// look has a look at the ledger.
 func (server *server) look(ctx context.Context, look func(serving.View)) error {
 	core, err := server.core()
 	if err != nil {

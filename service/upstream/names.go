@@ -7,7 +7,7 @@ import (
 )
 
 const (
-	mostRows = 4096 // of a controller's books
+	mostRows = 4096 // of a controller's ledger
 	mostMade = 2 * mostRows
 	together = 32 // rows that are given up at once
 )
@@ -32,7 +32,7 @@ func (proxy *Proxy) keepName(view serving.View, name, id string) {
 	proxy.made[name] = id
 }
 
-// readMade knows the names of the books alone.
+// readMade knows the names of the ledger alone.
 func (proxy *Proxy) readMade(view serving.View) {
 	made := map[string]string{}
 	for _, volume := range view.Volumes() {
@@ -46,7 +46,7 @@ func (proxy *Proxy) readMade(view serving.View) {
 	proxy.made = made
 }
 
-// unmade gives up volumes of the books, where these are full, of which the upstream never gave an id: their CreateVolume failed, and none is under way.
+// unmade gives up volumes of the ledger, where it is full, of which the upstream never gave an id: their CreateVolume failed, and none is under way.
 // Nothing can be attached of them.
 func (proxy *Proxy) unmade(view serving.View) []frames.Body {
 	if view.Count() < mostRows {

@@ -30,7 +30,7 @@ func atPath(path string) func(serving.Known) error {
 	}
 }
 
-// volume is a volume in a node's books: the id that it has there, or gets with this call.
+// volume is a volume in a node's ledger: the id that it has there, or gets with this call.
 func (proxy *Proxy) volume(view serving.View, id string) (volume uint64, texts []store.Text, there bool) {
 	table := view.Table()
 	if volume, there = table.ID(id); there {
@@ -83,7 +83,7 @@ func (proxy *Proxy) unstage(call *call) (serving.Request, error) {
 	return request, fit.err
 }
 
-// publish reads a NodePublishVolume. One without a staging path is of an upstream that stages nothing: in the books the volume is staged with its first
+// publish reads a NodePublishVolume. One without a staging path is of an upstream that stages nothing: in the ledger the volume is staged with its first
 // publication.
 func (proxy *Proxy) publish(call *call) (serving.Request, error) {
 	fit, asked := fitting{}, wire.NodePublishVolumeRequest{}

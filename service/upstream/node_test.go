@@ -89,7 +89,7 @@ func TestOneNode(t *testing.T) {
 	box.refuses(ctx, codes.ResourceExhausted, "targets", publishCall, publishes("v", "/s", "/one more", writer))
 }
 
-// An upstream that stages nothing: in the books a volume is staged from its first publication to its last one.
+// An upstream that stages nothing: in the ledger a volume is staged from its first publication to its last one.
 func TestUnstaged(t *testing.T) {
 	for _, isNumbered := range []bool{false, true} {
 		box, ctx, count := newBox(t, upstream.Options{Node: "n1"}), soon(t), 0

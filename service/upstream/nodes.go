@@ -135,7 +135,7 @@ func (its *nodes) config() ([]byte, error) {
 	return bytes.TrimSpace(config.Bytes()), nil
 }
 
-// letGoOfLost has the books let go of what is attached to nodes that are gone for good. The upstream isn't asked.
+// letGoOfLost has the ledger let go of what is attached to nodes that are gone for good. The upstream isn't asked.
 func (proxy *Proxy) letGoOfLost(ctx context.Context, core *serving.Core) error {
 	for _, it := range proxy.options.Lost {
 		node := identities.Shorten(it, frames.MaxNode).Text

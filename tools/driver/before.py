@@ -6,7 +6,7 @@ from program.running import LIMIT, wanted
 from . import sanity
 from .requests import attach, create, detach
 
-# Of sanity's groups those in which the upstream's refusal leaves nothing in the books that a later call meets, and nothing is listed.
+# Of sanity's groups those in which the upstream's refusal leaves nothing in the ledger that a later call meets, and nothing is listed.
 GROUPS = (sanity.identity, sanity.creating, sanity.deleting, sanity.validating, sanity.missing, sanity.life, sanity.unknown, sanity.together)
 
 

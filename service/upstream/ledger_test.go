@@ -106,7 +106,7 @@ func TestAllNodes(t *testing.T) {
 	box.attached(id)
 }
 
-// What the books have no room for is mapped, and the upstream gets it as it came; two that differ stay two.
+// What the ledger has no room for is mapped, and the upstream gets it as it came; two that differ stay two.
 func TestFits(t *testing.T) {
 	box, ctx := newBox(t, upstream.Options{}).start(), soon(t)
 	made := 0
@@ -128,7 +128,7 @@ func TestFits(t *testing.T) {
 		it.GetMount().MountFlags = []string{fmt.Sprint(at)}
 		many.VolumeCapabilities = append(many.VolumeCapabilities, it)
 	}
-	box.does(ctx, createCall, many) // to the books they are one
+	box.does(ctx, createCall, many) // to the ledger they are one
 	for at := 0; at < 8; at++ {
 		it := in(writer)
 		it.GetMount().FsType = fmt.Sprint("fs", at)
@@ -145,7 +145,7 @@ func TestFits(t *testing.T) {
 	box.does(ctx, attachCall, publish)
 }
 
-// What is refused, since the books have no room for it, or CSI none.
+// What is refused, since the ledger has no room for it, or CSI none.
 func TestNoRoom(t *testing.T) {
 	box, ctx := newBox(t, upstream.Options{}).start(), soon(t)
 	long := strings.Repeat("x", 4096)
@@ -206,7 +206,7 @@ func TestLost(t *testing.T) {
 	box.attached(first, "n3")
 }
 
-// What the upstream can't tell the books do: the nodes at which its volumes are attached.
+// What the upstream can't tell the ledger does: the nodes at which its volumes are attached.
 func TestListing(t *testing.T) {
 	for _, it := range []struct{ lists, hasNodes bool }{{false, false}, {true, false}, {true, true}} {
 		box, ctx := newBox(t, upstream.Options{}), soon(t)
@@ -283,7 +283,7 @@ func TestOthers(t *testing.T) {
 	}
 }
 
-// full are books of 4,096 volumes, by docs/RECORDS.md: each made by call N of session 1, in mount ext4 and mode 1. Of the first alone there is an id.
+// full is a ledger of 4,096 volumes, by docs/RECORDS.md: each made by call N of session 1, in mount ext4 and mode 1. Of the first alone there is an id.
 func full(t *testing.T, path string) {
 	t.Helper()
 	kept, err := store.OpenKeeper(context.Background(), path)
@@ -305,10 +305,10 @@ func full(t *testing.T, path string) {
 	kept.Close()
 }
 
-// Where the books are full of volumes of which the upstream never gave an id, these are given up, by arrival; those that it has stay.
+// Where the ledger is full of volumes of which the upstream never gave an id, these are given up, by arrival; those that it has stay.
 func TestUnmade(t *testing.T) {
 	box, ctx := newBox(t, upstream.Options{}), soon(t)
-	full(t, box.folder+"/books.db")
+	full(t, box.folder+"/ledger.db")
 	box.behind.Has("kept", "v1")
 	box.start()
 	box.does(ctx, attachCall, attaches("kept", "n1", writer))
