@@ -1,6 +1,6 @@
 /* window GROUP frames|lines INPUT PROGRAM WORD..: runs the program, writes so many frames (or lines) of INPUT at once, waits for as many replies (or answers),
    and so on to the end of INPUT. Of lines the program says one first. It prints the seconds from the end of the first group to the end of the last one, and in
-   microseconds how long a group waited: the median, and the 99th of a hundred. */
+   microseconds how long a group waited: the median, and the 99th percentile. */
 #define _DEFAULT_SOURCE
 #include <stdint.h>
 #include <stdio.h>
