@@ -1,4 +1,5 @@
-// Package version has the version of the programs, which is that of the file VERSION at the top of the repository: tools/count compares them.
+// Package version has the version of the programs, which is that of the file VERSION at the top of the repository:
+// tools/house/count compares them.
 package version
 
 import (

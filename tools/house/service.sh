@@ -25,8 +25,8 @@ service_environment() {
     fi
 }
 
-# Writes to the folder $1 of each program that follows which files of sources it is made of, each with its package: for tools/packaging/parties. It is run in
-# the tree.
+# Writes to the folder $1 of each program that follows which files of sources it is made of, each with its package: for tools/operator/packaging/parties. It
+# is run in the tree.
 service_linked() {
     local folder="$1" it each='{{$it := .}}'
     for it in GoFiles CgoFiles CFiles HFiles SFiles; do each+='{{range .'$it'}}{{$it.ImportPath}}{{"\t"}}{{$it.Dir}}/{{.}}{{"\n"}}{{end}}'; done

@@ -1,1 +1,1 @@
-"""What tools/package and tools/check_package are made of."""
+"""What tools/check_package is made of: what packages have to have, and machines on which they are installed."""

@@ -1,5 +1,10 @@
 """The cases of `tools/check_program`, by subject."""
-from . import (
+import os
+import sys
+
+sys.path.insert(0, f"{os.path.dirname(os.path.dirname(os.path.realpath(__file__)))}/operator")  # where `auditing` is
+
+from . import (  # noqa: E402
     changes,
     configs,
     devices,

@@ -1,4 +1,5 @@
-"""Runs a program of csi-replay as it is used: every subcommand, on calls, schedules and lines of usual kinds, a second or two in all. For `tools/install`.
+"""Runs a program of csi-replay as it is used: every subcommand, on calls, schedules and lines of usual kinds, a second or two in all.
+For `tools/operator/install`.
 
 training.py PROGRAM: with this environment. The frames and schedules are drawn as bench/figures makes them, the lines by tools/embed.py."""
 import importlib.machinery
@@ -9,7 +10,7 @@ import subprocess
 import sys
 import tempfile
 
-TOP = os.path.dirname(os.path.dirname(os.path.dirname(os.path.realpath(__file__))))
+TOP = os.path.dirname(os.path.dirname(os.path.dirname(os.path.dirname(os.path.realpath(__file__)))))
 
 
 def load(path):

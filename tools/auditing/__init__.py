@@ -1,1 +1,0 @@
-"""What tools/audit reads, and what it looks for."""

@@ -1,0 +1,1 @@
+"""What tools/operator/audit reads, and what it looks for."""
