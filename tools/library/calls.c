@@ -283,10 +283,10 @@ static asked asked_for(enum asked_kind kind, const char *name) {
     return it;
 }
 
-asked controller_of(const char *config) { return asked_for(AS_CONTROLLER, config); }
-asked node_of(const char *id) { return asked_for(AS_NODE, id); }
+asked as_controller(const char *config) { return asked_for(AS_CONTROLLER, config); }
+asked as_node(const char *id) { return asked_for(AS_NODE, id); }
 
-asked orchestrator_of(const char *config) {
+asked as_orchestrator(const char *config) {
     asked it = asked_for(AS_ORCHESTRATOR, config);
     it.nodes = nodes_of(config);
     return it;
@@ -298,7 +298,7 @@ asked in_session(asked it, uint64_t session) {
     return it;
 }
 
-asked joined_node(const char *id, uint64_t session) { return in_session(node_of(id), session); }
+asked joined_node(const char *id, uint64_t session) { return in_session(as_node(id), session); }
 
 asked of_record(asked it, bytes record) {
     it.record = record;

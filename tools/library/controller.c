@@ -95,7 +95,7 @@ void test_controller(void) {
              "{\"greatest\":1000,\"nodes\":[{\"id\":\"n1\",\"slots\":2},{\"id\":\"n2\",\"slots\":1},{\"slots\":4096,\"id\":\"n3\"},"
              "{\"id\":\"%s\",\"slots\":1}]}",
              name);
-    asked how = controller_of(config);
+    asked how = as_controller(config);
     parts head = parts_of(3, (const char *[]){"head 1 0", NULL});
     makes(&of, how, TUFAYON_DONE, &head, &head);
     play(&of, how, MADE);

@@ -34,7 +34,7 @@ static const char *const PARTS[] = {"head 2 1", "1 live \"v\" 10 block/1 ; ; 1.1
 
 void test_examples(void) {
     tested of = {0};
-    asked how = controller_of("{\"greatest\":1000,\"nodes\":[]}");
+    asked how = as_controller("{\"greatest\":1000,\"nodes\":[]}");
     parts head = parts_of(3, (const char *[]){"head 1 0", NULL}), made = parts_of(3, PARTS), older = parts_of(2, PARTS), none = {0};
     bytes whole = hex(RECORD), before = hex(OLDER);
     for (size_t at = 0; at < sizeof FRAMES / sizeof *FRAMES; at++) must(same(frame_of(FRAMES[at][0]), hex(FRAMES[at][1])), "a frame is spelled otherwise");

@@ -100,7 +100,7 @@ static size_t answer_all(tufayon_plugin *plugin, const uint8_t *at, size_t size,
 
 static void pieces(void) {
     bytes stream = {0}, wanted = {0};
-    asked how = controller_of("{\"greatest\":1000,\"nodes\":[{\"id\":\"n1\",\"slots\":1}]}");
+    asked how = as_controller("{\"greatest\":1000,\"nodes\":[{\"id\":\"n1\",\"slots\":1}]}");
     for (size_t at = 0; at < sizeof STREAM / sizeof *STREAM; at++) put(&stream, frame_of(STREAM[at]).at, frame_of(STREAM[at]).size);
     for (size_t at = 0; at < sizeof REPLIES / sizeof *REPLIES; at++) put(&wanted, frame_of(REPLIES[at]).at, frame_of(REPLIES[at]).size);
     for (size_t cut = 0; cut <= stream.size; cut++) {
@@ -117,7 +117,7 @@ static void pieces(void) {
 
 void test_frames(void) {
     tested controller = {0}, node = {0};
-    asked how = controller_of("{\"greatest\":1000,\"nodes\":[{\"id\":\"n1\",\"slots\":1}]}");
+    asked how = as_controller("{\"greatest\":1000,\"nodes\":[{\"id\":\"n1\",\"slots\":1}]}");
     parts head = parts_of(3, (const char *[]){"head 1 0", NULL}), node_head = parts_of(3, (const char *[]){"head \"n1\" 0", NULL});
     makes(&controller, how, TUFAYON_DONE, &head, &head);
     faults(&controller);
@@ -125,7 +125,7 @@ void test_frames(void) {
     play_one(&controller, "1.1 controller CreateVolume \"v\" 10 0 block/1", "0 1 \"\"",
              (const char *[]){"head 2 1", "1 live \"v\" 10 block/1 ; ; 1.1 CreateVolume 0 1 \"\"", NULL});
     faults(&controller); /* and what it told before stays */
-    makes(&node, node_of("n1"), TUFAYON_DONE, &node_head, &node_head);
+    makes(&node, as_node("n1"), TUFAYON_DONE, &node_head, &node_head);
     faults(&node);
     lengths(&node);
     pieces();

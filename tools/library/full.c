@@ -74,7 +74,7 @@ static asked large_controller(void) {
     size_t at = (size_t)sprintf(config, "{\"greatest\":1000,\"nodes\":[");
     for (int node = 0; node < NODES; node++) at += (size_t)sprintf(config + at, "%s{\"id\":\"node%d\",\"slots\":4096}", node > 0 ? "," : "", node);
     sprintf(config + at, "]}");
-    return controller_of(config);
+    return as_controller(config);
 }
 
 static void create_all(tested *of) {
@@ -205,7 +205,7 @@ static void unstage_others(tested *of) {
 
 static void node(void) {
     tested of = {0};
-    asked how = node_of("n1");
+    asked how = as_node("n1");
     parts head = parts_of(3, (const char *[]){"head \"n1\" 0", NULL});
     makes(&of, how, TUFAYON_DONE, &head, &head);
     stage_all(&of);

@@ -22,14 +22,14 @@ static const char *const NO_CONFIGS[] = {
 static void configs(tested *of, const parts *head) {
     for (size_t at = 0; at < sizeof CONFIGS / sizeof *CONFIGS; at++) {
         snprintf(doing, sizeof doing, "configuration %s", CONFIGS[at]);
-        makes(of, controller_of(CONFIGS[at]), TUFAYON_DONE, head, head);
-        compares(of, controller_of(CONFIGS[at]));
+        makes(of, as_controller(CONFIGS[at]), TUFAYON_DONE, head, head);
+        compares(of, as_controller(CONFIGS[at]));
         frees(of);
     }
     for (size_t at = 0; at < sizeof NO_CONFIGS / sizeof *NO_CONFIGS; at++) {
         snprintf(doing, sizeof doing, "no configuration %s", NO_CONFIGS[at]);
-        makes(of, controller_of(NO_CONFIGS[at]), TUFAYON_BAD_NAME, NULL, NULL);
-        makes(of, of_record(controller_of(NO_CONFIGS[at]), record_of(head, 3)), TUFAYON_BAD_NAME, NULL, NULL);
+        makes(of, as_controller(NO_CONFIGS[at]), TUFAYON_BAD_NAME, NULL, NULL);
+        makes(of, of_record(as_controller(NO_CONFIGS[at]), record_of(head, 3)), TUFAYON_BAD_NAME, NULL, NULL);
     }
 }
 
@@ -53,7 +53,7 @@ static void many_nodes(tested *of, int count, uint32_t ending, const parts *head
     for (int node = 0; node < count; node++) at += (size_t)sprintf(config + at, "%s{\"id\":\"n%d\",\"slots\":1}", node > 0 ? "," : "", node);
     sprintf(config + at, "]}");
     snprintf(doing, sizeof doing, "%d nodes", count);
-    makes(of, controller_of(config), ending, head, head);
+    makes(of, as_controller(config), ending, head, head);
 }
 
 /* An id of so many such bytes. */
@@ -66,7 +66,7 @@ static asked long_id(char byte, size_t size) {
 static void ids(tested *of) {
     static const char *const NONE[] = {"", "\xff", "n\xc3", "\xc0\x80", "\xed\xa0\x80", "\xf4\x90\x80\x80"};
     parts head = parts_of(3, (const char *[]){"head \"n\"*255 0", NULL}), other = parts_of(3, (const char *[]){"head \"\\xe2\\x82\\xac\\x00\" 0", NULL});
-    asked odd = node_of("\xe2\x82\xac");
+    asked odd = as_node("\xe2\x82\xac");
     put_number(&odd.name, 0, 1);
     snprintf(doing, sizeof doing, "ids");
     makes(of, long_id('n', 255), TUFAYON_DONE, &head, &head);
@@ -77,8 +77,8 @@ static void ids(tested *of) {
     makes(of, long_id('n', 256), TUFAYON_BAD_NAME, NULL, NULL);
     makes(of, long_id('n', 1 << 16), TUFAYON_BAD_NAME, NULL, NULL);
     for (size_t at = 0; at < sizeof NONE / sizeof *NONE; at++) {
-        makes(of, node_of(NONE[at]), TUFAYON_BAD_NAME, NULL, NULL);
-        makes(of, of_record(node_of(NONE[at]), record_of(&head, 3)), TUFAYON_BAD_NAME, NULL, NULL);
+        makes(of, as_node(NONE[at]), TUFAYON_BAD_NAME, NULL, NULL);
+        makes(of, of_record(as_node(NONE[at]), record_of(&head, 3)), TUFAYON_BAD_NAME, NULL, NULL);
     }
 }
 
@@ -86,12 +86,12 @@ static void ids(tested *of) {
 static void is_full(tested *of, asked own) {
     parts head = parts_of(3, (const char *[]){"head 1 0", NULL}), node_head = parts_of(3, (const char *[]){"head \"n1\" 0", NULL});
     makes(of, own, TUFAYON_FULL, NULL, NULL);
-    makes(of, controller_of(CONFIGS[0]), TUFAYON_FULL, NULL, NULL);
-    makes(of, controller_of("nothing"), TUFAYON_FULL, NULL, NULL);
-    makes(of, node_of(""), TUFAYON_FULL, NULL, NULL);
-    makes(of, of_record(controller_of(CONFIGS[0]), record_of(&head, 2)), TUFAYON_FULL, NULL, NULL);
-    makes(of, of_record(node_of("n1"), record_of(&node_head, 3)), TUFAYON_FULL, NULL, NULL);
-    makes(of, of_record(node_of("n1"), (bytes){0}), TUFAYON_FULL, NULL, NULL);
+    makes(of, as_controller(CONFIGS[0]), TUFAYON_FULL, NULL, NULL);
+    makes(of, as_controller("nothing"), TUFAYON_FULL, NULL, NULL);
+    makes(of, as_node(""), TUFAYON_FULL, NULL, NULL);
+    makes(of, of_record(as_controller(CONFIGS[0]), record_of(&head, 2)), TUFAYON_FULL, NULL, NULL);
+    makes(of, of_record(as_node("n1"), record_of(&node_head, 3)), TUFAYON_FULL, NULL, NULL);
+    makes(of, of_record(as_node("n1"), (bytes){0}), TUFAYON_FULL, NULL, NULL);
 }
 
 void test_handles(void) {
@@ -102,11 +102,11 @@ void test_handles(void) {
     configs(&of, &head);
     long_configs(&of);
     many_nodes(&of, 64, TUFAYON_DONE, &head);
-    is_full(&of, controller_of(CONFIGS[0]));
-    makes(&other, node_of("n1"), TUFAYON_DONE, &node_head, &node_head); /* handles have nothing in common */
-    is_full(&other, node_of("n1"));
+    is_full(&of, as_controller(CONFIGS[0]));
+    makes(&other, as_node("n1"), TUFAYON_DONE, &node_head, &node_head); /* handles have nothing in common */
+    is_full(&other, as_node("n1"));
     frees(&of);
-    compares(&other, node_of("n1"));
+    compares(&other, as_node("n1"));
     frees(&other);
     frees(&other);
     many_nodes(&of, 65, TUFAYON_BAD_NAME, NULL);

@@ -120,9 +120,9 @@ typedef struct asked {
 /* Every how many-th allocation is refused: with 1 each, and then all is compared at each call; with 0 none. */
 extern unsigned long stride;
 
-asked controller_of(const char *config);
-asked node_of(const char *id);
-asked orchestrator_of(const char *config);
+asked as_controller(const char *config);
+asked as_node(const char *id);
+asked as_orchestrator(const char *config);
 asked joined_node(const char *id, uint64_t session);
 asked in_session(asked it, uint64_t session);
 asked of_record(asked it, bytes record);

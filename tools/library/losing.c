@@ -151,7 +151,7 @@ static void loses_many(asked how) {
 
 void test_losing(void) {
     tested of = {0};
-    asked how = orchestrator_of(CONFIG);
+    asked how = as_orchestrator(CONFIG);
     parts after = parts_of(3, AFTER), again = {0}, other = {0};
     open_it(&of, how, BEFORE);
     loses(&of, "lose \"n1\"", TUFAYON_DONE, 0, &after);

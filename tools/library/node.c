@@ -67,7 +67,7 @@ static void sixteen(tested *of) {
 void test_node(void) {
     char name[256];
     tested of = {0}, longest = {0};
-    asked how = node_of("n1");
+    asked how = as_node("n1");
     parts head = parts_of(3, (const char *[]){"head \"n1\" 0", NULL});
     parts long_head = parts_of(3, (const char *[]){"head \"n\"*255 0", NULL});
     makes(&of, how, TUFAYON_DONE, &head, &head);
@@ -75,8 +75,8 @@ void test_node(void) {
     sixteen(&of);
     play(&of, how, FORGOTTEN);
     memset(name, 'n', 255), name[255] = 0;
-    makes(&longest, node_of(name), TUFAYON_DONE, &long_head, &long_head);
-    play(&longest, node_of(name), LONGEST);
+    makes(&longest, as_node(name), TUFAYON_DONE, &long_head, &long_head);
+    play(&longest, as_node(name), LONGEST);
     frees(&of);
     frees(&longest);
 }

@@ -180,10 +180,10 @@ static void known_while_asked(tested *of) {
 
 void test_orchestrator(void) {
     tested of = {0}, plugin = {0};
-    asked how = orchestrator_of(CONFIG);
+    asked how = as_orchestrator(CONFIG);
     parts head = parts_of(3, (const char *[]){"nodes 1 \"n1\" \"n2\"", NULL}), node_head = parts_of(3, (const char *[]){"head \"n1\" 0", NULL});
     other_kinds(&of, TUFAYON_EMPTY);
-    makes(&of, orchestrator_of("nothing"), TUFAYON_BAD_NAME, NULL, NULL);
+    makes(&of, as_orchestrator("nothing"), TUFAYON_BAD_NAME, NULL, NULL);
     makes(&of, how, TUFAYON_DONE, &head, &head);
     makes(&of, how, TUFAYON_FULL, NULL, NULL);
     makes(&of, of_record(how, record_of(&head, 3)), TUFAYON_FULL, NULL, NULL);
@@ -200,7 +200,7 @@ void test_orchestrator(void) {
     play_asked(&of, STOPPED);
     known_while_asked(&of);
     compares(&of, how);
-    makes(&plugin, node_of("n1"), TUFAYON_DONE, &node_head, &node_head);
+    makes(&plugin, as_node("n1"), TUFAYON_DONE, &node_head, &node_head);
     other_kinds(&plugin, TUFAYON_OTHER_KIND);
     frees(&plugin);
     frees(&of);

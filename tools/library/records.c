@@ -48,7 +48,7 @@ static void opens(asked how, int version, const char *const *lines, const char *
 }
 
 void test_records(void) {
-    asked controller = controller_of(CONFIG), node = node_of("n1");
+    asked controller = as_controller(CONFIG), node = as_node("n1");
     opens(controller, 3, CONTROLLER, CONTROLLER);
     opens(node, 3, NODE, NODE);
     for (int version = 1; version <= 2; version++) {
@@ -188,7 +188,7 @@ static void damages(tested *of, asked how, int version, const char *const *rows)
 
 void test_damaged(void) {
     tested of = {0};
-    asked controller = controller_of(CONFIG), node = node_of("n1");
+    asked controller = as_controller(CONFIG), node = as_node("n1");
     size_t count = sizeof NO_CONTROLLER / sizeof *NO_CONTROLLER, node_count = sizeof NO_NODE / sizeof *NO_NODE;
     for (size_t at = 0; at < count; at++) lines(&of, controller, NO_CONTROLLER[at], at + OF_SESSIONS >= count);
     for (size_t at = 0; at < node_count; at++) lines(&of, node, NO_NODE[at], at + OF_SESSIONS >= node_count);

@@ -35,12 +35,12 @@ static set set_of(const char *const *controller, const char *const *const *nodes
     set it = {.nodes = grow(NULL, (count + 1) * sizeof(tested)), .count = count};
     parts store = parts_of(3, controller), none = {0};
     memset(it.nodes, 0, (count + 1) * sizeof(tested));
-    makes(&it.controller, of_record(controller_of(CONFIG), record_of(&store, 3)), TUFAYON_DONE, &store, &none);
+    makes(&it.controller, of_record(as_controller(CONFIG), record_of(&store, 3)), TUFAYON_DONE, &store, &none);
     for (size_t at = 0; at < count; at++) {
         char id[8] = {0};
         sscanf(nodes[at][0], "head \"%7[^\"]", id);
         store = parts_of(3, nodes[at]);
-        makes(&it.nodes[at], of_record(node_of(id), record_of(&store, 3)), TUFAYON_DONE, &store, &none);
+        makes(&it.nodes[at], of_record(as_node(id), record_of(&store, 3)), TUFAYON_DONE, &store, &none);
     }
     return it;
 }
@@ -210,9 +210,9 @@ static void a_used_set(void) {
     knows(&made, "attached \"left\" \"n3\"", 0, TUFAYON_KNOWN_YES);
     wants(&made, "goal \"cut\"", 0, goal_of("stop \"n2\" \"/\""));
     play_asked(&made, UNDONE);
-    compares(&made, orchestrator_of(CONFIG));
-    play(&of.controller, controller_of(CONFIG), OF_CONTROLLER);
-    play(&of.nodes[1], node_of("n2"), OF_N2);
+    compares(&made, as_orchestrator(CONFIG));
+    play(&of.controller, as_controller(CONFIG), OF_CONTROLLER);
+    play(&of.nodes[1], as_node("n2"), OF_N2);
     frees(&made);
     free_set(&of);
 }
@@ -296,7 +296,7 @@ static void other_handles(void) {
     set of = set_of(CONTROLLER, NODES, 2);
     tested made = {0}, empty = {0}, other = {0}, controller = of.controller, node = of.nodes[1];
     parts head = parts_of(3, (const char *[]){"nodes 1 \"n1\" \"n2\" \"n3\"", NULL});
-    makes(&other, orchestrator_of(CONFIG), TUFAYON_DONE, &head, &head);
+    makes(&other, as_orchestrator(CONFIG), TUFAYON_DONE, &head, &head);
     const struct {
         tested *controller, *node;
         uint32_t ending;
@@ -383,11 +383,11 @@ static void many(void) {
     set of = {.nodes = grow(NULL, (MOST_NODES + 1) * sizeof(tested)), .count = MOST_NODES};
     memset(of.nodes, 0, (MOST_NODES + 1) * sizeof(tested));
     stride = 0;
-    makes(&of.controller, of_record(controller_of(config), record_of(&controller, 3)), TUFAYON_DONE, &controller, &none);
+    makes(&of.controller, of_record(as_controller(config), record_of(&controller, 3)), TUFAYON_DONE, &controller, &none);
     for (int node = 0; node < MOST_NODES; node++) {
         char id[16];
         snprintf(id, sizeof id, "m%d", node);
-        makes(&of.nodes[node], of_record(node_of(id), record_of(&given[node], 3)), TUFAYON_DONE, &given[node], &none);
+        makes(&of.nodes[node], of_record(as_node(id), record_of(&given[node], 3)), TUFAYON_DONE, &given[node], &none);
     }
     tested made = {0};
     uint64_t session = 0, place = 0;

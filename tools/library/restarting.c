@@ -141,8 +141,8 @@ static void opens_with_other_nodes(asked how) {
     opens(how, (const char *[]){"nodes 1", NULL});
     opens(how, MORE);
     opens(how, UNLISTED);
-    opens(orchestrator_of(NO_NODES), UNLISTED);
-    opens(orchestrator_of(NO_NODES), (const char *[]){"nodes 1 \"n1\" \"n2\"", NULL});
+    opens(as_orchestrator(NO_NODES), UNLISTED);
+    opens(as_orchestrator(NO_NODES), (const char *[]){"nodes 1 \"n1\" \"n2\"", NULL});
 }
 
 static const char *const IN_USE[][2] = {
@@ -159,7 +159,7 @@ static void is_in_use(asked how) {
         parts given = parts_of(3, (const char *[]){IN_USE[at][0], IN_USE[at][1], NULL});
         snprintf(doing, sizeof doing, "a record in use: %s, %s", IN_USE[at][0], IN_USE[at][1]);
         makes(&of, of_record(how, record_of(&given, 3)), TUFAYON_NODE_IN_USE, NULL, NULL);
-        makes(&of, of_record(orchestrator_of(NO_NODES), record_of(&given, 3)), TUFAYON_NODE_IN_USE, NULL, NULL);
+        makes(&of, of_record(as_orchestrator(NO_NODES), record_of(&given, 3)), TUFAYON_NODE_IN_USE, NULL, NULL);
         given = parts_of(3, (const char *[]){"nodes 18446744073709551615 \"n3\"", IN_USE[at][1], NULL});
         makes(&of, of_record(how, record_of(&given, 3)), TUFAYON_REFUSED, NULL, NULL);
     }
@@ -207,7 +207,7 @@ static void opens_in_sessions(asked how) {
         makes(&of, in_session(of_record(how, record_of(&last, 3)), ANY[at]), TUFAYON_REFUSED, NULL, NULL);
         makes(&of, in_session(of_record(how, record_of(&used, 3)), ANY[at]), TUFAYON_NODE_IN_USE, NULL, NULL);
         makes(&of, in_session(of_record(how, frame_of("1.1 controller DeleteVolume 1")), ANY[at]), TUFAYON_BAD_RECORD, NULL, NULL);
-        makes(&of, in_session(orchestrator_of("{}"), ANY[at]), TUFAYON_BAD_NAME, NULL, NULL);
+        makes(&of, in_session(as_orchestrator("{}"), ANY[at]), TUFAYON_BAD_NAME, NULL, NULL);
     }
 }
 
@@ -251,7 +251,7 @@ static void is_damaged(asked how) {
 
 void test_orchestrator_records(void) {
     tested of = {0};
-    asked how = orchestrator_of(CONFIG);
+    asked how = as_orchestrator(CONFIG);
     static const char *const SPENT[] = {"nodes 18446744073709551615 \"n1\" \"n2\"", "1 volume \"v\" 1 0 ; - maybe none 0 ;", NULL};
     opens(how, (const char *[]){"nodes 0 \"n1\" \"n2\"", NULL});
     opens(how, (const char *[]){"nodes 18446744073709551613 \"n1\" \"n2\"", NULL});
@@ -264,7 +264,7 @@ void test_orchestrator_records(void) {
     parts spent = parts_of(3, SPENT), none = {0};
     snprintf(doing, sizeof doing, "no session is left");
     makes(&of, of_record(how, record_of(&spent, 3)), TUFAYON_REFUSED, NULL, NULL);
-    makes(&of, of_record(orchestrator_of("{}"), record_of(&spent, 3)), TUFAYON_BAD_NAME, NULL, NULL);
+    makes(&of, of_record(as_orchestrator("{}"), record_of(&spent, 3)), TUFAYON_BAD_NAME, NULL, NULL);
     for (size_t at = 0; at < sizeof NO_RECORD / sizeof *NO_RECORD; at++) {
         parts given = parts_of(3, NO_RECORD[at]);
         snprintf(doing, sizeof doing, "no orchestrator's record: %s, %s ..", NO_RECORD[at][0], NO_RECORD[at][1] ? NO_RECORD[at][1] : "");
@@ -325,7 +325,7 @@ void test_many(void) {
     enum { VOLUMES = 4096 };
     static char request[64], frame[128], row[128];
     tested of = {0};
-    asked how = orchestrator_of(CONFIG);
+    asked how = as_orchestrator(CONFIG);
     parts head = parts_of(3, (const char *[]){"nodes 1 \"n1\" \"n2\"", NULL});
     has_most_entries(how);
     makes(&of, how, TUFAYON_DONE, &head, &head);

@@ -44,7 +44,7 @@ def drawn_set(drawn, version):
             staged[node].append((at, way, targets))
         volumes.append(stores.volume(at, f"v{at}", stores.kept("ControllerPublishVolume", call), drawn.randint(1, 99), ways, held, version=version))
     controller = [stores.controller_head(drawn.choice((0, 99)), session, version), *volumes]
-    return controller, [node_of(drawn, node, rows, version) for node, rows in staged.items()]
+    return controller, [parts_of_node(drawn, node, rows, version) for node, rows in staged.items()]
 
 
 def may_join(held, way, readonly):
@@ -58,7 +58,7 @@ def may_join(held, way, readonly):
     return True
 
 
-def node_of(drawn, node, rows, version):
+def parts_of_node(drawn, node, rows, version):
     session, parts = drawn.randint(1, 9), {}
     for at, way, targets in rows:
         parts[at] = stores.staged(at, way, stores.kept("NodeStageVolume", (drawn.randint(1, session), 3)), targets, version)

@@ -145,10 +145,10 @@ recovery-on recovery old new count world came on (inr has) =
     }
 
 -- either
-pub happens-on : MovesLaw → (happening : Happening) (old new : WorldParts) (count : ℕ) (world : World) (came : List Outcome) → IsOn old (suc count) world came → HasHappened happening old world new
+pub happening-on : MovesLaw → (happening : Happening) (old new : WorldParts) (count : ℕ) (world : World) (came : List Outcome) → IsOn old (suc count) world came → HasHappened happening old world new
     → LeadsTo (IsOn new count) (happening ∷ []) world came
-happens-on law (happenings.Occurs event) old new count world came on has = event-on law event old new count world came on has
-happens-on law (happenings.Recovers recovery) old new count world came on has = recovery-on recovery old new count world came on has
+happening-on law (happenings.Occurs event) old new count world came on has = event-on law event old new count world came on has
+happening-on law (happenings.Recovers recovery) old new count world came on has = recovery-on recovery old new count world came on has
 
 -- ---- one after another
 
@@ -236,9 +236,9 @@ played-first moves safe config events shown shows count =
 -- one thing more
 pub played-more : MovesLaw → (config : Config) (others : List Happening) (happening : Happening) (old new : WorldParts) → IsOnFrom config others old → Happens happening old new
     → IsOnFrom config (others ++ happening ∷ []) new
-played-more moves config others happening old new before happens count =
+played-more moves config others happening old new before happened count =
     leads-then (IsOn old (suc count)) (IsOn new count) others (happening ∷ []) (empty_world config) []
-    (λ last all on. happens-on moves happening old new count last all on (happens last (on.shows).world)) (before (suc count))
+    (λ last all on. happening-on moves happening old new count last all on (happened last (on.shows).world)) (before (suc count))
 
 -- so it is played
 pub played-all : (config : Config) (all : List Happening) (shown : WorldParts) → IsOnFrom config all shown → IsPlayed (record { config = config; happenings = all }) shown
@@ -251,17 +251,17 @@ pub played-world : (config : Config) (all : List Happening) (shown : WorldParts)
 played-world config all shown before = of-world shown 0 all (empty_world config) [] (before 0)
 
 -- an event happened
-pub event-happens : {E : Type 0} → (event : Event) (old : WorldParts) (result : Result WorldParts E)
+pub event-happened : {E : Type 0} → (event : Event) (old : WorldParts) (result : Result WorldParts E)
     → ((world : World) → ShowsWorld old world → IfOk result (λ new. ShowsWorld new (occurs world event).world))
     → ((world : World) → ShowsWorld old world → IfOk result (λ new. new.outcomes ≡ old.outcomes ++ (occurs world event).outcome ∷ []))
     → IfOk result (Happens (happenings.Occurs event) old)
-event-happens event old (Ok new) leads logged = λ world shows. record { shows = leads world shows; logged = logged world shows }
-event-happens event old (Err fault) leads logged = tt
+event-happened event old (Ok new) leads logged = λ world shows. record { shows = leads world shows; logged = logged world shows }
+event-happened event old (Err fault) leads logged = tt
 
 -- a recovery
-pub recovery-happens : {E : Type 0} → (recovery : Recovery) (nodes given : List (List ℕ)) (old : WorldParts) (result : Result WorldParts E) → nodes ≡ recovery.nodes → given ≡ recovery.given
+pub recovery-happened : {E : Type 0} → (recovery : Recovery) (nodes given : List (List ℕ)) (old : WorldParts) (result : Result WorldParts E) → nodes ≡ recovery.nodes → given ≡ recovery.given
     → ((world : World) → ShowsWorld old world → IfOk result (Recovering (record { nodes = nodes; session = recovery.session; given = given }) old world))
     → IfOk result (Happens (happenings.Recovers recovery) old)
-recovery-happens recovery nodes given old (Ok new) listed stored comes =
+recovery-happened recovery nodes given old (Ok new) listed stored comes =
     λ world shows. subst (λ (asks : worlds.Recovery). Recovering asks old world new) (λ i. record { nodes = listed i; session = recovery.session; given = stored i }) (comes world shows)
-recovery-happens recovery nodes given old (Err fault) listed stored comes = tt
+recovery-happened recovery nodes given old (Err fault) listed stored comes = tt

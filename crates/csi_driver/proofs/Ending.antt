@@ -16,8 +16,8 @@ use Rattle.csi_frames.specs.Public.Spelling.{spelling}
 use Rattle.csi_frames.specs.Public.Splitting.{Splitting, after_feed, after_next, IsNextFrame}
 use Rattle.csi_frames.specs.Public.Stream.{FramesOf}
 use Rattle.csi_frames.proofs.Streams.{given_are}
-use Rattle.csi_driver.specs.declared.driver.Stop.{Stop}
-use Rattle.csi_driver.specs.declared.driver.Stop.TheVariants as stop
+use Rattle.csi_driver.specs.declared.driver.DriveStop.{DriveStop}
+use Rattle.csi_driver.specs.declared.driver.DriveStop.TheVariants as stop
 use Rattle.csi_driver.specs.declared.frames.Frames.{Frames}
 use Rattle.csi_driver.specs.declared.frames.FramesFault.{FramesFault}
 use Rattle.csi_driver.specs.declared.frames.FramesFault.TheVariants as faults
@@ -181,11 +181,11 @@ module _ {H S O F : Type 0} (handles : State H S O → ℕ → Frame → State H
   -- ---- a reader's stream
 
   -- what was driven
-  abbrev Driven : State (Frames H) S O → Option (List ℕ) → Option (List ℕ) → Result (Unit {0}) (Stop (FramesFault F)) → Type 0
+  abbrev Driven : State (Frames H) S O → Option (List ℕ) → Option (List ℕ) → Result (Unit {0}) (DriveStop (FramesFault F)) → Type 0
   Driven = Drives (Rests handles flushes is_flushed) (StopsIn handles flushes is_flushed stops) first
 
   -- what was read
-  abbrev Read : State (Frames H) S O → Option (List ℕ) → Option (List ℕ) → Result (Unit {0}) (Stop (FramesFault F)) → Type 0
+  abbrev Read : State (Frames H) S O → Option (List ℕ) → Option (List ℕ) → Result (Unit {0}) (DriveStop (FramesFault F)) → Type 0
   Read now = ReadsFrames handles flushes is_flushed stops (inner first) (inner now) now.own.count
 
   -- the reader has ended, and nothing is left over
@@ -201,7 +201,7 @@ module _ {H S O F : Type 0} (handles : State H S O → ℕ → Frame → State H
       record { read = d.read; few = d.few; consumed = d.consumed; frames = of.0; rest = of.1; stream = of.2; ends = ended d.read now (IsAtEnd left') (Err fault) d.ends.1 d.ends.0 ends of.0 of.1 of.2 }
 
   -- it stopped before
-  pub read_stopped : (now : State (Frames H) S O) (left left' : Option (List ℕ)) (s : Stop (FramesFault F)) → Driven now left left' (Err s) → Read now left left' (Err s)
+  pub read_stopped : (now : State (Frames H) S O) (left left' : Option (List ℕ)) (s : DriveStop (FramesFault F)) → Driven now left left' (Err s) → Read now left left' (Err s)
   read_stopped now left left' stop.Input d =
       let of = frames_of d.read d.are in
       record { read = d.read; few = d.few; consumed = d.consumed; frames = of.0; rest = of.1; stream = of.2; ends = (rest_waits d.read now d.ends of.0 of.1 of.2, all_handled d.read now d.ends of.0 of.1 of.2) }

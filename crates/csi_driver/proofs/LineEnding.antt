@@ -4,8 +4,8 @@ use Rattle.std.specs.Prelude.{slice_get, IfSome}
 use Rattle.std.specs.List.{flat_map}
 use Rattle.std.specs.Io.KnownBytes.{IsAtEnd}
 use Rattle.std.proofs.lemmas.List.{append-nil, take_all}
-use Rattle.csi_driver.specs.declared.driver.Stop.{Stop}
-use Rattle.csi_driver.specs.declared.driver.Stop.TheVariants as stop
+use Rattle.csi_driver.specs.declared.driver.DriveStop.{DriveStop}
+use Rattle.csi_driver.specs.declared.driver.DriveStop.TheVariants as stop
 use Rattle.csi_driver.specs.declared.lines.Lines.{Lines}
 use Rattle.csi_driver.specs.declared.lines.LinesFault.{LinesFault}
 use Rattle.csi_driver.specs.declared.lines.LinesFault.TheVariants as faults
@@ -202,15 +202,15 @@ module _ {H S O F : Type 0} (handles : State H S O → ℕ → List ℕ → Stat
   -- ---- a reader's stream
 
   -- what was driven
-  abbrev Driven : State (Lines H) S O → Option (List ℕ) → Option (List ℕ) → Result (Unit {0}) (Stop (LinesFault F)) → Type 0
+  abbrev Driven : State (Lines H) S O → Option (List ℕ) → Option (List ℕ) → Result (Unit {0}) (DriveStop (LinesFault F)) → Type 0
   Driven = Drives (RestsLines handles flushes is_flushed) (StopsInLines handles flushes is_flushed stops) first
 
   -- what was read
-  abbrev Read : State (Lines H) S O → Option (List ℕ) → Option (List ℕ) → Result (Unit {0}) (Stop (LinesFault F)) → Type 0
+  abbrev Read : State (Lines H) S O → Option (List ℕ) → Option (List ℕ) → Result (Unit {0}) (DriveStop (LinesFault F)) → Type 0
   Read now = ReadsLines handles flushes is_flushed stops (inner_of_lines first) (inner_of_lines now) now.own.count
 
   -- how the end of a stream is told
-  abbrev told : Result (Unit {0}) (LinesFault F) → Result (Unit {0}) (Stop (LinesFault F))
+  abbrev told : Result (Unit {0}) (LinesFault F) → Result (Unit {0}) (DriveStop (LinesFault F))
   told (Ok done) = Ok done
   told (Err fault) = Err (stop.Consumer fault)
 
@@ -225,7 +225,7 @@ module _ {H S O F : Type 0} (handles : State H S O → ℕ → List ℕ → Stat
       record { read = d.read; few = d.few; consumed = d.consumed; lines = of.0; rest = of.1; stream = of.2; ends = ended d.read before now number (IsAtEnd left') (Err fault) d.ends.1 d.ends.0 sum ends of.0 of.1 of.2 }
 
   -- it stopped before
-  pub read_stopped : (now : State (Lines H) S O) (left left' : Option (List ℕ)) (s : Stop (LinesFault F)) → Driven now left left' (Err s) → Read now left left' (Err s)
+  pub read_stopped : (now : State (Lines H) S O) (left left' : Option (List ℕ)) (s : DriveStop (LinesFault F)) → Driven now left left' (Err s) → Read now left left' (Err s)
   read_stopped now left left' stop.Input d =
       let of = lines_of d.read in
       record { read = d.read; few = d.few; consumed = d.consumed; lines = of.0; rest = of.1; stream = of.2; ends = (rest_short d.read now d.ends of.0 of.1 of.2, all_handled d.read now d.ends of.0 of.1 of.2) }

@@ -14,7 +14,7 @@ const PIECE: usize = 4096;
 const ENDLESS: u64 = 1 << 63;
 
 /// Why a stream wasn't taken to its end.
-pub enum Stop<F> {
+pub enum DriveStop<F> {
     /// The reader failed.
     Input,
     /// 2^63 bytes or more were read, and no end.
@@ -50,7 +50,7 @@ pub fn drive<S, O, C: Consumer<S, O>, R: Source<S, O>>(
     out: &mut O,
     reader: &mut R,
     piece: &mut [u8],
-) -> Result<(), Stop<C::Fault>>
+) -> Result<(), DriveStop<C::Fault>>
     requires begun { C.rests (record { own = consumer.old; store = store.old; out = out.old }) []
         (record { own = consumer.old; store = store.old; out = out.old }) }
     requires room { 0 < length piece.old }
@@ -67,13 +67,13 @@ pub fn drive<S, O, C: Consumer<S, O>, R: Source<S, O>>(
             Ok(n) => {
                 match take(consumer, store, out, piece.split_at(n).0) {
                     Ok(()) => read += n as u64,
-                    Err(fault) => return Err(Stop::Consumer(fault)),
+                    Err(fault) => return Err(DriveStop::Consumer(fault)),
                 }
             }
-            Err(_) => return Err(Stop::Input),
+            Err(_) => return Err(DriveStop::Input),
         }
     }
-    Err(Stop::Endless)
+    Err(DriveStop::Endless)
 }
 
 /// Takes a stream that is there whole, 4,096 bytes at a time.

@@ -11,7 +11,7 @@ ghost use Rattle.csi_driver.specs.Private.Framing.{HandlesNext, EndsIn};
 ghost use Rattle.csi_driver.specs.Public.Frames.{ReadsFrames, EndsFrames, RestsAtFrames};
 
 use crate::consumer::Consumer;
-use crate::driver::{Stop, drive, drive_slice};
+use crate::driver::{DriveStop, drive, drive_slice};
 use crate::handler::FrameHandler;
 use crate::source::Source;
 use csi_frames::{FaultKind, FrameFault, Splitter};
@@ -157,7 +157,7 @@ impl<H> Frames<H> {
         out: &mut O,
         reader: &mut R,
         piece: &mut [u8],
-    ) -> Result<(), Stop<FramesFault<H::Fault>>>
+    ) -> Result<(), DriveStop<FramesFault<H::Fault>>>
     where
         H: FrameHandler<S, O>,
         requires splitter { self.old.splitter ≡ new_splitting }
@@ -175,7 +175,7 @@ impl<H> Frames<H> {
         match drive(self, store, out, reader, piece) {
             Ok(()) => match self.end() {
                 Ok(()) => Ok(()),
-                Err(fault) => Err(Stop::Consumer(fault)),
+                Err(fault) => Err(DriveStop::Consumer(fault)),
             },
             Err(stop) => Err(stop),
         }

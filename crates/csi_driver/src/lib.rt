@@ -16,7 +16,7 @@ mod source;
 mod waiting;
 
 pub use consumer::Consumer;
-pub use driver::{Stop, drive, drive_slice};
+pub use driver::{DriveStop, drive, drive_slice};
 pub use frames::{Frames, FramesFault};
 pub use handler::FrameHandler;
 pub use laws::lines_law;

@@ -8,7 +8,7 @@ ghost use Rattle.csi_driver.specs.Private.Lining.{HandlesNextLine, HandlesLast};
 ghost use Rattle.csi_driver.specs.Public.Lines.{ReadsLines, EndsLines, RestsAtLines};
 
 use crate::consumer::Consumer;
-use crate::driver::{Stop, drive, drive_slice};
+use crate::driver::{DriveStop, drive, drive_slice};
 use crate::line_buffer::{Front, LineBuffer};
 use crate::line_handler::LineHandler;
 use crate::source::Source;
@@ -162,7 +162,7 @@ impl<H> Lines<H> {
         out: &mut O,
         reader: &mut R,
         piece: &mut [u8],
-    ) -> Result<(), Stop<LinesFault<H::Fault>>>
+    ) -> Result<(), DriveStop<LinesFault<H::Fault>>>
     where
         H: LineHandler<S, O>,
         requires buffer { self.old.buffer ≡ [] }
@@ -180,7 +180,7 @@ impl<H> Lines<H> {
         match drive(self, store, out, reader, piece) {
             Ok(()) => match self.end(store, out) {
                 Ok(()) => Ok(()),
-                Err(fault) => Err(Stop::Consumer(fault)),
+                Err(fault) => Err(DriveStop::Consumer(fault)),
             },
             Err(stop) => Err(stop),
         }

@@ -15,11 +15,11 @@ use Rattle.csi_orchestrator.specs.declared.thing.Thing.{Thing}
 use Rattle.csi_orchestrator.specs.Model.Moves.{Input, Answer, Sends, Hears, Comes}
 use Rattle.csi_stores.specs.Public.Content.{all_changed}
 use Rattle.csi_embedded.specs.declared.command.Command.{Command}
-use Rattle.csi_embedded.specs.declared.ending.Ending.{Ending}
-use Rattle.csi_embedded.specs.declared.ending.Ending.TheVariants.{NoMemory, Empty, BadName, Short}
+use Rattle.csi_embedded.specs.declared.ending.CallEnding.{CallEnding}
+use Rattle.csi_embedded.specs.declared.ending.CallEnding.TheVariants.{NoMemory, Empty, BadName, Short}
 use Rattle.csi_embedded.specs.declared.embedded.Embedded.{Embedded}
-use Rattle.csi_embedded.specs.declared.plugin.Plugin.{Plugin}
-use Rattle.csi_embedded.specs.declared.plugin.Plugin.TheVariants.{Controller, Node, Orchestrator}
+use Rattle.csi_embedded.specs.declared.plugin.HeldPlugin.{HeldPlugin}
+use Rattle.csi_embedded.specs.declared.plugin.HeldPlugin.TheVariants.{Controller, Node, Orchestrator}
 use Rattle.csi_embedded.specs.Public.Plugins.{plugin_parts, IsAsItWas, IsTimelyTo}
 use Rattle.csi_embedded.specs.Public.Calls.{frame_front, told_changes, IsNoFrame, Remains}
 use Rattle.csi_embedded.specs.Public.Asking.{command_input, Carries, HasNone, EndsAsked, EndsHeard, AsksOne, HearsOne, HandleAsks, HasAsked, HasHeard}
@@ -30,7 +30,7 @@ use Rattle.csi_embedded.specs.Private.Knowing.{HandleTellsRead, GivesKnown}
 -- ---- an empty handle
 
 -- an empty handle is asked nothing
-pub empty-asked : (command : Result Command Ending) (old new : Option Embedded) (room count : ℕ) (bytes : List ℕ) (fault number : ℕ) → None ≡ old → new ≡ None → number ≡ 2
+pub empty-asked : (command : Result Command CallEnding) (old new : Option Embedded) (room count : ℕ) (bytes : List ℕ) (fault number : ℕ) → None ≡ old → new ≡ None → number ≡ 2
     → GivesAsked command old new room count bytes fault number
 empty-asked command old new room count bytes fault number empty none is =
     subst (λ (o : Option Embedded). GivesAsked command o new room count bytes fault number) empty
@@ -44,7 +44,7 @@ empty-heard came old new used room count bytes fault number empty none is =
     (subst (λ (n : Option Embedded). HasHeard came None used n room count bytes fault number) (sym none) (record { ending = Empty; is = is; hears = refl }))
 
 -- it knows nothing
-pub empty-known : (thing : Result Thing Ending) (old : Option Embedded) (known number : ℕ) → None ≡ old → number ≡ 2 → GivesKnown thing old known number
+pub empty-known : (thing : Result Thing CallEnding) (old : Option Embedded) (known number : ℕ) → None ≡ old → number ≡ 2 → GivesKnown thing old known number
 empty-known thing old known number empty is = subst (λ (o : Option Embedded). GivesKnown thing o known number) empty (record { ending = Empty; is = is; tells = refl })
 
 -- it wants nothing
@@ -70,7 +70,7 @@ short-frame bytes fault (inr wants) is = absurd (differs (sym (ap (λ (f : Frame
 -- ---- what stays
 
 -- all is as it was where nothing was done
-pub as-it-was : (plugin : Plugin) → IsAsItWas plugin plugin
+pub as-it-was : (plugin : HeldPlugin) → IsAsItWas plugin plugin
 as-it-was (Controller service) = record { config = refl; shows = λ state shown. shown; parts = refl; changes = refl }
 as-it-was (Node service) = record { shows = λ state shown. shown; parts = refl; changes = refl }
 as-it-was (Orchestrator service) = record { orchestrator = refl }
@@ -90,24 +90,24 @@ carried-on tells input first second third result same told c = record {
   was = sym same ∙ c.was;
   is = c.is;
   answered = c.answered;
-  changed = on_ok_weaker result (λ changed. changed ∙ ap (λ (p : Plugin). all_changed (told_changes third) (plugin_parts p)) same) c.changed;
+  changed = on_ok_weaker result (λ changed. changed ∙ ap (λ (p : HeldPlugin). all_changed (told_changes third) (plugin_parts p)) same) c.changed;
   stays = on_err_weaker result (λ stays. stays ∙ told) c.stays;
 }
 
 -- so it was asked
-pub was-asked : (input : Input) (first second third : Embedded) (room count : ℕ) (bytes : List ℕ) (fault : ℕ) (ending : Ending) (told : Result (Option Frame) OrchFault) → second.plugin ≡ first.plugin
+pub was-asked : (input : Input) (first second third : Embedded) (room count : ℕ) (bytes : List ℕ) (fault : ℕ) (ending : CallEnding) (told : Result (Option Frame) OrchFault) → second.plugin ≡ first.plugin
     → told_changes second ≡ told_changes first → Carries Sends input second told third → EndsAsked told count bytes fault ending → AsksOne (λ i. i ≡ input) first third room count bytes fault ending
 was-asked input first second third room count bytes fault ending told same changes carried ends =
     inl (record { input = input; such = refl; told = told; carried = carried-on Sends input first second third told same changes carried; ends = ends })
 
 -- so it heard a frame
-pub was-heard : (came : Frame) (first second third : Embedded) (count : ℕ) (bytes : List ℕ) (fault : ℕ) (ending : Ending) (told : Result Heard OrchFault) → IsTimelyTo came first.plugin → second.plugin ≡ first.plugin
+pub was-heard : (came : Frame) (first second third : Embedded) (count : ℕ) (bytes : List ℕ) (fault : ℕ) (ending : CallEnding) (told : Result Heard OrchFault) → IsTimelyTo came first.plugin → second.plugin ≡ first.plugin
     → told_changes second ≡ told_changes first → Carries Hears (Comes came) second told third → EndsHeard told count bytes fault ending → HearsFrame came first third count bytes fault ending
 was-heard came first second third count bytes fault ending told timely same changes carried ends =
     inl (record { timely = timely; told = told; carried = carried-on Hears (Comes came) first second third told same changes carried; ends = ends })
 
 -- a frame that the bytes begin with came
-pub heard-front : (old : Embedded) (came : List ℕ) (frame : Frame) (used : ℕ) (new : Embedded) (room count : ℕ) (bytes : List ℕ) (fault : ℕ) (ending : Ending) → BeginsWith (frame_front came) frame used
+pub heard-front : (old : Embedded) (came : List ℕ) (frame : Frame) (used : ℕ) (new : Embedded) (room count : ℕ) (bytes : List ℕ) (fault : ℕ) (ending : CallEnding) → BeginsWith (frame_front came) frame used
     → HearsFrame frame old new count bytes fault ending → HearsOne old came used new room count bytes fault ending
 heard-front old came frame used new room count bytes fault ending begins (inl h) = inl (record { frame = frame; begins = begins; timely = h.timely; told = h.told; carried = h.carried; ends = h.ends })
 heard-front old came frame used new room count bytes fault ending begins (inr (inl none, remains)) = inr (inl (inr (inr (subst (IsNoFrame (frame_front came)) (sym none) tt))), remains)
@@ -116,13 +116,13 @@ heard-front old came frame used new room count bytes fault ending begins (inr (i
 -- ---- what was read is what is asked
 
 -- there is one that is this, so want of one is want of memory, or none at all
-none-of : {X : Type 0} (Is : X → Type 0) (this : X) (ending : Ending) → HasNone (λ (it : X). it ≡ this) ending → HasNone Is ending
+none-of : {X : Type 0} (Is : X → Type 0) (this : X) (ending : CallEnding) → HasNone (λ (it : X). it ≡ this) ending → HasNone Is ending
 none-of Is this NoMemory none = tt
 none-of Is this BadName none = absurd (none this refl)
 none-of Is this _ none = none
 
 -- where a command was read that is so, one that is so was asked
-asked-one : (Is : Input → Type 0) (input : Input) (old new : Embedded) (room count : ℕ) (bytes : List ℕ) (fault : ℕ) (ending : Ending) → Is input
+asked-one : (Is : Input → Type 0) (input : Input) (old new : Embedded) (room count : ℕ) (bytes : List ℕ) (fault : ℕ) (ending : CallEnding) → Is input
     → AsksOne (λ i. i ≡ input) old new room count bytes fault ending → AsksOne Is old new room count bytes fault ending
 asked-one Is input old new room count bytes fault ending such (inl a) =
     inl (record { input = a.input; such = subst Is (sym a.such) such; told = a.told; carried = a.carried; ends = a.ends })
@@ -131,7 +131,7 @@ asked-one Is input old new room count bytes fault ending such (inr (inr (inl oth
 asked-one Is input old new room count bytes fault ending such (inr (inr (inr none), remains)) = inr (inr (inr (none-of Is input ending none)), remains)
 
 -- the same of a handle
-handle-asks : (Is : Input → Type 0) (command : Result Command Ending) (old new : Option Embedded) (room count : ℕ) (bytes : List ℕ) (fault : ℕ) (ending : Ending)
+handle-asks : (Is : Input → Type 0) (command : Result Command CallEnding) (old new : Option Embedded) (room count : ℕ) (bytes : List ℕ) (fault : ℕ) (ending : CallEnding)
     → IfOk command (λ c. Is (command_input c)) → IfErr command (HasNone Is) → HandleAsksRead command old new room count bytes fault ending → HandleAsks Is old new room count bytes fault ending
 handle-asks Is (Ok command) (Some old) (Some new) room count bytes fault ending such none asks = asked-one Is (command_input command) old new room count bytes fault ending such asks
 handle-asks Is (Err why) (Some old) (Some new) room count bytes fault ending such none asks =
@@ -144,7 +144,7 @@ handle-asks Is (Ok command) None (Some new) room count bytes fault ending such n
 handle-asks Is (Err why) None (Some new) room count bytes fault ending such none asks = asks
 
 -- and its number
-pub asked-read : (Is : Input → Type 0) (command : Result Command Ending) (old new : Option Embedded) (room count : ℕ) (bytes : List ℕ) (fault number : ℕ) → IfOk command (λ c. Is (command_input c))
+pub asked-read : (Is : Input → Type 0) (command : Result Command CallEnding) (old new : Option Embedded) (room count : ℕ) (bytes : List ℕ) (fault number : ℕ) → IfOk command (λ c. Is (command_input c))
     → IfErr command (HasNone Is) → GivesAsked command old new room count bytes fault number → HasAsked Is old new room count bytes fault number
 asked-read Is command old new room count bytes fault number such none gives = record {
   ending = gives.ending;
@@ -155,7 +155,7 @@ asked-read Is command old new room count bytes fault number such none gives = re
 -- ---- what was read is what is told of
 
 -- where a thing was read that is so, it is told of one that is so
-known-one : (Is : Thing → Type 0) (thing : Thing) (embedded : Embedded) (known : ℕ) (ending : Ending) → Is thing → TellsThing (λ t. t ≡ thing) embedded known ending → TellsThing Is embedded known ending
+known-one : (Is : Thing → Type 0) (thing : Thing) (embedded : Embedded) (known : ℕ) (ending : CallEnding) → Is thing → TellsThing (λ t. t ≡ thing) embedded known ending → TellsThing Is embedded known ending
 known-one Is thing embedded known ending such (inl k) =
     inl (record {
       done = k.done;
@@ -170,7 +170,7 @@ known-one Is thing embedded known ending such (inr (inl other)) = inr (inl other
 known-one Is thing embedded known ending such (inr (inr none)) = inr (inr (none-of Is thing ending none))
 
 -- the same of a handle
-handle-tells : (Is : Thing → Type 0) (thing : Result Thing Ending) (handle : Option Embedded) (known : ℕ) (ending : Ending) → IfOk thing Is → IfErr thing (HasNone Is)
+handle-tells : (Is : Thing → Type 0) (thing : Result Thing CallEnding) (handle : Option Embedded) (known : ℕ) (ending : CallEnding) → IfOk thing Is → IfErr thing (HasNone Is)
     → HandleTellsRead thing handle known ending → HandleTellsThing Is handle known ending
 handle-tells Is (Ok thing) (Some embedded) known ending such none tells = known-one Is thing embedded known ending such tells
 handle-tells Is (Err why) (Some embedded) known ending such none tells = inr (inr (subst (HasNone Is) (sym tells) none))
@@ -178,6 +178,6 @@ handle-tells Is (Ok thing) None known ending such none tells = tells
 handle-tells Is (Err why) None known ending such none tells = tells
 
 -- and its number
-pub known-read : (Is : Thing → Type 0) (thing : Result Thing Ending) (handle : Option Embedded) (known number : ℕ) → IfOk thing Is → IfErr thing (HasNone Is) → GivesKnown thing handle known number
+pub known-read : (Is : Thing → Type 0) (thing : Result Thing CallEnding) (handle : Option Embedded) (known number : ℕ) → IfOk thing Is → IfErr thing (HasNone Is) → GivesKnown thing handle known number
     → HasKnown Is handle known number
 known-read Is thing handle known number such none gives = record { ending = gives.ending; is = gives.is; tells = handle-tells Is thing handle known gives.ending such none gives.tells }

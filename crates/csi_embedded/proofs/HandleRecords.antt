@@ -5,8 +5,8 @@ use Rattle.std.proofs.Math.Seq.{map-set_same}
 use Rattle.std.proofs.lemmas.List.{length-map, get_or-map, take_more}
 use Rattle.csi_lists.specs.Model.Members.{IsAmong}
 use Rattle.csi_node.specs.Model.Record.{NodeParts}
-use Rattle.csi_embedded.specs.declared.ending.Ending.{Ending}
-use Rattle.csi_embedded.specs.declared.ending.Ending.TheVariants.{NoMemory, OtherKind}
+use Rattle.csi_embedded.specs.declared.ending.CallEnding.{CallEnding}
+use Rattle.csi_embedded.specs.declared.ending.CallEnding.TheVariants.{NoMemory, OtherKind}
 use Rattle.csi_embedded.specs.declared.embedded.Embedded.{Embedded}
 use Rattle.csi_embedded.specs.declared.handle.Handle.{Handle}
 use Rattle.csi_embedded.specs.Public.Recovering.{had_by, is_node}
@@ -57,14 +57,14 @@ among-at (x ∷ xs) zero d within = inl refl
 among-at (x ∷ xs) (suc place) d within = inr (among-at xs place d (omega (arith, within)))
 
 -- why one of them has no record is why not all have
-none-among : (all : List (Option Embedded)) (handle : Option Embedded) (ending : Ending) → IsAmong handle all → HasNoRecord is_node handle ending → HaveNoRecords all ending
+none-among : (all : List (Option Embedded)) (handle : Option Embedded) (ending : CallEnding) → IsAmong handle all → HasNoRecord is_node handle ending → HaveNoRecords all ending
 none-among all None ending among none = subst (HaveNoRecords all) (sym none) among
 none-among all (Some embedded) NoMemory among none = tt
 none-among all (Some embedded) OtherKind among none = (embedded, among, none)
 none-among all (Some embedded) _ among none = absurd none
 
 -- the same of the handle at a place
-pub none-at : (handles : List Handle) (all : List (Option Embedded)) (index : ℕ) (d : Handle) (ending : Ending) → index < length handles → had_by handles ≡ all
+pub none-at : (handles : List Handle) (all : List (Option Embedded)) (index : ℕ) (d : Handle) (ending : CallEnding) → index < length handles → had_by handles ≡ all
     → HasNoRecord is_node (get_or handles index d).held.embedded ending → HaveNoRecords all ending
 none-at handles all index d ending within same none =
     let long : index < length all = subst (λ (n : ℕ). index < n) (sym (as-long handles all same)) within in

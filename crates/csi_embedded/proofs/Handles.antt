@@ -4,8 +4,8 @@ use Rattle.std.proofs.lemmas.Bool.{true≢false}
 use Rattle.std.proofs.lemmas.List.{length-drop}
 use Rattle.csi_frames.specs.Public.Spelling.{spelling, BeginsWith}
 use Rattle.csi_stores.specs.Public.Content.{all_changed}
-use Rattle.csi_embedded.specs.declared.ending.Ending.{Ending}
-use Rattle.csi_embedded.specs.declared.ending.Ending.TheVariants.{NoMemory, Empty, Full}
+use Rattle.csi_embedded.specs.declared.ending.CallEnding.{CallEnding}
+use Rattle.csi_embedded.specs.declared.ending.CallEnding.TheVariants.{NoMemory, Empty, Full}
 use Rattle.csi_embedded.specs.declared.embedded.Embedded.{Embedded}
 use Rattle.csi_embedded.specs.Public.Plugins.{plugin_parts}
 use Rattle.csi_embedded.specs.Public.Calls.{frame_front, told_changes, AnswersFrame, HasFailed, HasTold, AnswersRecord}
@@ -14,12 +14,12 @@ use Rattle.csi_embedded.specs.Public.Making.{Makes}
 use Rattle.csi_embedded.specs.Private.Making.{GivesHandle}
 
 -- a handle that has a plugin gets no other
-pub full-made : (Is : Embedded → Ending → Type 0) (Why : Ending → Type 0) (old : Option Embedded) (number : ℕ) → is_some old ≡ true → number ≡ 3 → Makes Is Why old old number
+pub full-made : (Is : Embedded → CallEnding → Type 0) (Why : CallEnding → Type 0) (old : Option Embedded) (number : ℕ) → is_some old ≡ true → number ≡ 3 → Makes Is Why old old number
 full-made Is Why None number full is = absurd (true≢false (sym full))
 full-made Is Why (Some embedded) number full is = inr (record { same = refl; ending = Full; is = is; why = refl })
 
 -- an empty one gets what was made
-pub put-made : (Is : Embedded → Ending → Type 0) (Why : Ending → Type 0) (old new : Option Embedded) (number : ℕ) (made : Result (Embedded × Ending) Ending)
+pub put-made : (Is : Embedded → CallEnding → Type 0) (Why : CallEnding → Type 0) (old new : Option Embedded) (number : ℕ) (made : Result (Embedded × CallEnding) CallEnding)
     → is_some old ≡ false → IfOk made (λ m. Is m.0 m.1) → IfErr made Why → Why NoMemory → GivesHandle made new number → Makes Is Why old new number
 put-made Is Why (Some embedded) new number made empty such why memory gives = absurd (true≢false empty)
 put-made Is Why None new number (Ok m) empty such why memory (inl gives) = inl (record { empty = refl; made = m.0; has = gives.0; ending = m.1; is = gives.1; such = such })

@@ -22,11 +22,11 @@ use Rattle.csi_recovery.proofs.OpenedAgain.{opened-next}
 use Rattle.csi_recovery.specs.Public.Judged.{IsKeptOf, IsGiven, AreGiven, record_of, IsRecoveryRefusal}
 use Rattle.csi_world.specs.Public.Recovered.{GivenNode, recovered, recovered_rows, MayRecover}
 use Rattle.csi_service.specs.Public.OrchestratorOpening.{opening_refusal}
-use Rattle.csi_embedded.specs.declared.ending.Ending.{Ending}
-use Rattle.csi_embedded.specs.declared.ending.Ending.TheVariants.{NoMemory, Empty, BadName, Refused, OtherKind, SameNode, NotLater, Disagrees, BadRow}
+use Rattle.csi_embedded.specs.declared.ending.CallEnding.{CallEnding}
+use Rattle.csi_embedded.specs.declared.ending.CallEnding.TheVariants.{NoMemory, Empty, BadName, Refused, OtherKind, SameNode, NotLater, Disagrees, BadRow}
 use Rattle.csi_embedded.specs.declared.embedded.Embedded.{Embedded}
-use Rattle.csi_embedded.specs.declared.plugin.Plugin.{Plugin}
-use Rattle.csi_embedded.specs.declared.plugin.Plugin.TheVariants.{Controller, Node, Orchestrator}
+use Rattle.csi_embedded.specs.declared.plugin.HeldPlugin.{HeldPlugin}
+use Rattle.csi_embedded.specs.declared.plugin.HeldPlugin.TheVariants.{Controller, Node, Orchestrator}
 use Rattle.csi_embedded.specs.Public.OrchestratorMaking.{AreNodesOf, IsNoNodes}
 use Rattle.csi_embedded.specs.Public.Raising.{HasRaised}
 use Rattle.csi_embedded.specs.Public.Recovering.{is_controller, ShowsController, ShowsNode, HasController, HasNode, HaveNodes, OfThese, TellsSession, IsRecovered, IsNotRecovered}
@@ -39,7 +39,7 @@ controller-kept : (handle : Option Embedded) (kept : RecordParts) (state : Contr
 controller-kept None kept state has shows = absurd has
 controller-kept (Some embedded) kept state has shows = by embedded.plugin has shows
   where
-    by : (plugin : Plugin) → IsControllerRecord plugin kept → ShowsController plugin state → IsKeptOf kept state
+    by : (plugin : HeldPlugin) → IsControllerRecord plugin kept → ShowsController plugin state → IsKeptOf kept state
     by (Controller service) of shows = of state shows
     by (Node service) of shows = absurd of
     by (Orchestrator service) of shows = absurd of
@@ -49,7 +49,7 @@ node-given : (handle : Option Embedded) (kept : NodeParts) (node : GivenNode) �
 node-given None kept node has shows = absurd has
 node-given (Some embedded) kept node has shows = by embedded.plugin has shows
   where
-    by : (plugin : Plugin) → IsNodeRecord plugin kept → ShowsNode plugin node → IsGiven kept node
+    by : (plugin : HeldPlugin) → IsNodeRecord plugin kept → ShowsNode plugin node → IsGiven kept node
     by (Controller service) of shows = absurd of
     by (Node service) of shows = record { id = shows.0 ∙ sym of.0; shows = of.1 node.state shows.1 }
     by (Orchestrator service) of shows = absurd of
@@ -79,7 +79,7 @@ empty-raised session old new number empty none is =
 -- ---- no record
 
 -- a session isn't told without the controller's
-pub no-controller-told : (known : ℕ) (controller : Option Embedded) (nodes : List (Option Embedded)) (session : ℕ) (ending : Ending) → HasNoRecord is_controller controller ending
+pub no-controller-told : (known : ℕ) (controller : Option Embedded) (nodes : List (Option Embedded)) (session : ℕ) (ending : CallEnding) → HasNoRecord is_controller controller ending
     → TellsSession known controller nodes session ending
 no-controller-told known None nodes session ending none = subst (TellsSession known None nodes session) (sym none) (inl refl)
 no-controller-told known (Some embedded) nodes session NoMemory none = tt
@@ -87,7 +87,7 @@ no-controller-told known (Some embedded) nodes session OtherKind none = (embedde
 no-controller-told known (Some embedded) nodes session _ none = absurd none
 
 -- nor without the nodes'
-pub no-nodes-told : (known : ℕ) (controller : Option Embedded) (nodes : List (Option Embedded)) (session : ℕ) (ending : Ending) → HaveNoRecords nodes ending
+pub no-nodes-told : (known : ℕ) (controller : Option Embedded) (nodes : List (Option Embedded)) (session : ℕ) (ending : CallEnding) → HaveNoRecords nodes ending
     → TellsSession known controller nodes session ending
 no-nodes-told known controller nodes session NoMemory none = tt
 no-nodes-told known controller nodes session Empty none = inr none
@@ -95,7 +95,7 @@ no-nodes-told known controller nodes session OtherKind none = (none.0, inr (none
 no-nodes-told known controller nodes session _ none = absurd none
 
 -- nothing is recovered without the controller's
-pub no-controller-recovered : (text : List ℕ) (session : ℕ) (controller : Option Embedded) (nodes : List (Option Embedded)) (place : ℕ) (ending : Ending)
+pub no-controller-recovered : (text : List ℕ) (session : ℕ) (controller : Option Embedded) (nodes : List (Option Embedded)) (place : ℕ) (ending : CallEnding)
     → HasNoRecord is_controller controller ending → IsNotRecovered text session controller nodes place ending
 no-controller-recovered text session None nodes place ending none = subst (IsNotRecovered text session None nodes place) (sym none) (inl refl)
 no-controller-recovered text session (Some embedded) nodes place NoMemory none = tt
@@ -103,7 +103,7 @@ no-controller-recovered text session (Some embedded) nodes place OtherKind none 
 no-controller-recovered text session (Some embedded) nodes place _ none = absurd none
 
 -- nor without the nodes'
-pub no-nodes-recovered : (text : List ℕ) (session : ℕ) (controller : Option Embedded) (nodes : List (Option Embedded)) (place : ℕ) (ending : Ending)
+pub no-nodes-recovered : (text : List ℕ) (session : ℕ) (controller : Option Embedded) (nodes : List (Option Embedded)) (place : ℕ) (ending : CallEnding)
     → HaveNoRecords nodes ending → IsNotRecovered text session controller nodes place ending
 no-nodes-recovered text session controller nodes place NoMemory none = tt
 no-nodes-recovered text session controller nodes place Empty none = inr none
@@ -111,7 +111,7 @@ no-nodes-recovered text session controller nodes place OtherKind none = (none.0,
 no-nodes-recovered text session controller nodes place _ none = absurd none
 
 -- nor where no nodes are said
-pub none-said : (text : List ℕ) (session : ℕ) (controller : Option Embedded) (nodes : List (Option Embedded)) (place : ℕ) (ending : Ending) → IsNoNodes text ending
+pub none-said : (text : List ℕ) (session : ℕ) (controller : Option Embedded) (nodes : List (Option Embedded)) (place : ℕ) (ending : CallEnding) → IsNoNodes text ending
     → IsNotRecovered text session controller nodes place ending
 none-said text session controller nodes place NoMemory none = tt
 none-said text session controller nodes place BadName none = inl none
@@ -155,7 +155,7 @@ made-of nodes session controller given kept made value may opened =
     }
 
 -- why nothing is opened of it
-pub unopened-of : (nodes : List (List ℕ)) (session : ℕ) (controller : RecordParts) (given : List NodeParts) (kept : OrchestratorKept) (place : ℕ) (ending : Ending) → session < 2 ^ 64
+pub unopened-of : (nodes : List (List ℕ)) (session : ℕ) (controller : RecordParts) (given : List NodeParts) (kept : OrchestratorKept) (place : ℕ) (ending : CallEnding) → session < 2 ^ 64
     → AreNodesFit nodes → OfRecords controller given (λ state known. kept ≡ record_of (recovered nodes session state known)) → IsNotOpenedNew kept nodes ending
     → IsUnmadeOf nodes session controller given place ending
 unopened-of nodes session controller given kept place NoMemory within fit value none = tt
@@ -165,7 +165,7 @@ unopened-of nodes session controller given kept place Refused within fit value n
 unopened-of nodes session controller given kept place _ within fit value none = absurd none
 
 -- why nothing was recovered, and how the call ends
-pub unrecovered-of : (nodes : List (List ℕ)) (session : ℕ) (controller : RecordParts) (given : List NodeParts) (fault : RecoveryFault) (place : ℕ) (ending : Ending)
+pub unrecovered-of : (nodes : List (List ℕ)) (session : ℕ) (controller : RecordParts) (given : List NodeParts) (fault : RecoveryFault) (place : ℕ) (ending : CallEnding)
     → EndsUnrecovered fault place ending → OfRecords controller given (λ state known. IsRecoveryRefusal nodes session state known fault)
     → IsUnmadeOf nodes session controller given place ending
 unrecovered-of nodes session controller given (faults.SameNode at) place ending ends refused =
@@ -200,7 +200,7 @@ recovered-of text session controller nodes listed kept given made said has have 
 
 -- and why none is made of them is why none is recovered
 pub not-recovered-of : (text : List ℕ) (session : ℕ) (controller : Option Embedded) (nodes : List (Option Embedded)) (listed : List (List ℕ)) (kept : RecordParts)
-    (given : List NodeParts) (place : ℕ) (ending : Ending) → AreNodesOf text listed → HasRecord IsControllerRecord controller kept → HaveRecords nodes given
+    (given : List NodeParts) (place : ℕ) (ending : CallEnding) → AreNodesOf text listed → HasRecord IsControllerRecord controller kept → HaveRecords nodes given
     → IsUnmadeOf listed session kept given place ending → IsNotRecovered text session controller nodes place ending
 not-recovered-of text session controller nodes listed kept given place ending said has have = by ending
   where
@@ -208,7 +208,7 @@ not-recovered-of text session controller nodes listed kept given place ending sa
         → OfThese controller nodes (λ state known. IsRecoveryRefusal listed session state known fault)
     refused fault of = of-these controller nodes kept given (λ state known. IsRecoveryRefusal listed session state known fault) has have of
 
-    by : (ending : Ending) → IsUnmadeOf listed session kept given place ending → IsNotRecovered text session controller nodes place ending
+    by : (ending : CallEnding) → IsUnmadeOf listed session kept given place ending → IsNotRecovered text session controller nodes place ending
     by NoMemory none = tt
     by BadName none = inr (record { listed = listed; said = said; refused = refused faults.BadNodes none })
     by SameNode none = record { listed = listed; said = said; refused = refused (faults.SameNode place) none }

@@ -8,7 +8,7 @@ use Rattle.csi_types.specs.declared.capability.Capability.{Capability}
 use Rattle.csi_types.specs.declared.mode.Mode.{Mode}
 use Rattle.csi_types.specs.declared.mode.Mode.TheVariants as modes
 use Rattle.csi_types.specs.Public.Limits.{IsCapability}
-use Rattle.csi_frames.specs.declared.fields.Stop.{Stop}
+use Rattle.csi_frames.specs.declared.fields.FieldStop.{FieldStop}
 use Rattle.csi_frames.specs.declared.version.Version.TheVariants.{Two}
 use Rattle.csi_frames.specs.Public.Bytes.{AreBytes}
 use Rattle.csi_frames.specs.Public.Grammar.{End}
@@ -21,8 +21,8 @@ use Rattle.csi_frames.proofs.CapabilityReaders.{capability_agrees}
 use Rattle.csi_frames.proofs.Codes.{TakesMode}
 use Rattle.csi_frames.proofs.Readers.{done, ok_is}
 use Rattle.csi_frames.proofs.Bytes.{AreBytes-back}
-use Rattle.csi_embedded.specs.declared.ending.Ending.{Ending}
-use Rattle.csi_embedded.specs.declared.ending.Ending.TheVariants.{NoMemory, BadName}
+use Rattle.csi_embedded.specs.declared.ending.CallEnding.{CallEnding}
+use Rattle.csi_embedded.specs.declared.ending.CallEnding.TheVariants.{NoMemory, BadName}
 use Rattle.csi_embedded.specs.Private.Asking.{IsNoFront}
 use Rattle.csi_embedded.specs.Public.Asking.{HasNone, SpellsCapability, SpellsCapabilities}
 
@@ -41,7 +41,7 @@ again : (one : Capability) (rest : List ℕ) → IsCapability one → capability
 again one rest fits = (capability_agrees Two End).again one (capability one) rest (record { fits = record { fits = fits; in_mode = has-mode one.mode }; are = refl })
 
 -- where none is read, none is spelled
-pub none-front : (bytes : List ℕ) (stop : Stop) → capability_at Two bytes ≡ Err stop → IsNoFront bytes BadName
+pub none-front : (bytes : List ℕ) (stop : FieldStop) → capability_at Two bytes ≡ Err stop → IsNoFront bytes BadName
 none-front bytes stop read = λ one rest fits are. absurd (differs one rest (sym (again one rest fits) ∙ ap (capability_at Two) (sym are) ∙ read))
   where
     differs : (one : Capability) (rest : List ℕ) → done one rest ≡ Err stop → ⊥
@@ -90,7 +90,7 @@ pub one-missed : (bytes : List ℕ) (one : Capability) (rest : List ℕ) → cap
 one-missed bytes one rest read some = λ other spelled. some (sym (front-same bytes one other rest [] read spelled.fits (spelled.are ∙ sym (append-nil (capability other)))).1)
 
 -- where none is read at the front, none is
-pub one-none : (bytes : List ℕ) (ending : Ending) → IsNoFront bytes ending → HasNone (SpellsCapability bytes) ending
+pub one-none : (bytes : List ℕ) (ending : CallEnding) → IsNoFront bytes ending → HasNone (SpellsCapability bytes) ending
 one-none bytes NoMemory none = tt
 one-none bytes BadName none = λ one spelled. none one [] spelled.fits (spelled.are ∙ sym (append-nil (capability one)))
 one-none bytes _ none = none
@@ -173,7 +173,7 @@ too-many bytes list left so_far many some = λ other spelled.
     by (c ∷ cs) are few = absurd (omega (arith, few))
 
 -- where none is read of what is left, they spell none
-pub some-none : (bytes : List ℕ) (list : List Capability) (left : List ℕ) (ending : Ending) → IsSoFar bytes list left → (left ≡ [] → ⊥) → IsNoFront left ending → HasNone (SpellsCapabilities bytes) ending
+pub some-none : (bytes : List ℕ) (list : List Capability) (left : List ℕ) (ending : CallEnding) → IsSoFar bytes list left → (left ≡ [] → ⊥) → IsNoFront left ending → HasNone (SpellsCapabilities bytes) ending
 some-none bytes list left NoMemory so_far some none = tt
 some-none bytes list left BadName so_far some none = λ other spelled.
     let rest = rest-of list other left so_far.each spelled.each (sym spelled.are ∙ so_far.are) in

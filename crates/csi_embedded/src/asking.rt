@@ -8,7 +8,7 @@ ghost use Rattle.csi_embedded.specs.Public.Asking.{command_input, AsksOne, Hears
 
 use crate::command::Command;
 use crate::embedded::Embedded;
-use crate::ending::Ending;
+use crate::ending::CallEnding;
 use crate::front::{MOST, front};
 use crate::sending::{give, refuse};
 use csi_frames::{FaultKind, decode};
@@ -24,30 +24,30 @@ pub(crate) fn ask(
     frame: &mut [u8],
     written: &mut usize,
     fault: &mut u32,
-) -> Ending
+) -> CallEnding
     ensures { AsksOne (λ input. input ≡ command_input command) embedded.old embedded.new (length frame.old) written.new
         (take written.new frame.new) fault.new result }
 {
     if frame.len() < MOST {
-        return Ending::NoRoom;
+        return CallEnding::NoRoom;
     }
     if !embedded.is_orchestrator() {
-        return Ending::OtherKind;
+        return CallEnding::OtherKind;
     }
     let Ok(bytes) = Vec::with_capacity(alloc, MOST) else {
-        return Ending::NoMemory;
+        return CallEnding::NoMemory;
     };
     let Ok(()) = embedded.tell() else {
-        return Ending::NoMemory;
+        return CallEnding::NoMemory;
     };
     match embedded.ask(command) {
         Ok(Some(sent)) => {
             give(&sent, bytes, frame, written);
-            Ending::Done
+            CallEnding::Done
         }
         Ok(None) => {
             *written = 0;
-            Ending::Met
+            CallEnding::Met
         }
         Err(why) => refuse(why, fault),
     }
@@ -57,11 +57,11 @@ pub(crate) fn ask(
 pub(crate) fn ask_read(
     alloc: Global,
     embedded: &mut Embedded,
-    command: Result<Command, Ending>,
+    command: Result<Command, CallEnding>,
     frame: &mut [u8],
     written: &mut usize,
     fault: &mut u32,
-) -> Ending
+) -> CallEnding
     ensures { AsksRead command embedded.old embedded.new (length frame.old) written.new (take written.new frame.new) fault.new result }
 {
     match command {
@@ -71,16 +71,16 @@ pub(crate) fn ask_read(
 }
 
 // The frame that these bytes begin with, and how many of them it takes.
-fn frame_of(alloc: Global, bytes: &[u8]) -> Result<(Frame, usize), Ending>
+fn frame_of(alloc: Global, bytes: &[u8]) -> Result<(Frame, usize), CallEnding>
     ensures begins { IfOk result (λ read. BeginsWith bytes.now read.0 read.1) }
     ensures none { IfErr result (IsNoFrame bytes.now) }
 {
     match decode(alloc, bytes) {
         Ok(read) => Ok(read),
         Err(fault) => match fault.kind {
-            FaultKind::NoMemory => Err(Ending::NoMemory),
-            FaultKind::Short => Err(Ending::Short),
-            _ => Err(Ending::BadFrame),
+            FaultKind::NoMemory => Err(CallEnding::NoMemory),
+            FaultKind::Short => Err(CallEnding::Short),
+            _ => Err(CallEnding::BadFrame),
         },
     }
 }
@@ -93,32 +93,32 @@ fn hear_frame(
     frame: &mut [u8],
     written: &mut usize,
     fault: &mut u32,
-) -> Ending
+) -> CallEnding
     requires kind { is_orchestrator embedded.old.plugin ≡ true }
     requires room { 1284 ≤ length frame.old }
     ensures { HearsFrame came.now embedded.old embedded.new written.new (take written.new frame.new) fault.new result }
 {
     if embedded.is_told_stale(came) {
-        return Ending::OlderStore;
+        return CallEnding::OlderStore;
     }
     let Ok(bytes) = Vec::with_capacity(alloc, MOST) else {
-        return Ending::NoMemory;
+        return CallEnding::NoMemory;
     };
     let Ok(()) = embedded.tell() else {
-        return Ending::NoMemory;
+        return CallEnding::NoMemory;
     };
     match embedded.hear(came) {
         Ok(Heard::Taken(Some(sent))) => {
             give(&sent, bytes, frame, written);
-            Ending::Done
+            CallEnding::Done
         }
         Ok(Heard::Taken(None)) => {
             *written = 0;
-            Ending::Done
+            CallEnding::Done
         }
         Ok(Heard::Ignored) => {
             *written = 0;
-            Ending::Ignored
+            CallEnding::Ignored
         }
         Err(why) => refuse(why, fault),
     }
@@ -133,14 +133,14 @@ pub(crate) fn hear(
     frame: &mut [u8],
     written: &mut usize,
     fault: &mut u32,
-) -> Ending
+) -> CallEnding
     ensures { HearsOne embedded.old came.now used.new embedded.new (length frame.old) written.new (take written.new frame.new) fault.new result }
 {
     if frame.len() < MOST {
-        return Ending::NoRoom;
+        return CallEnding::NoRoom;
     }
     if !embedded.is_orchestrator() {
-        return Ending::OtherKind;
+        return CallEnding::OtherKind;
     }
     match frame_of(alloc, front(came)) {
         Ok((read, size)) => {

@@ -4,27 +4,27 @@ ghost use Rattle.csi_frames.specs.Public.Reading.{capability_at as at_front};
 ghost use Rattle.csi_embedded.specs.Public.Asking.{SpellsCapability, SpellsCapabilities, HasNone};
 ghost use Rattle.csi_embedded.specs.Private.Asking.{IsNoFront};
 
-use crate::ending::Ending;
+use crate::ending::CallEnding;
 use csi_frames::{Fields, Version, capability_at};
 use csi_types::{Capability, CapabilityList};
 use std::alloc::Global;
 
 // The capability at the front.
-fn front(alloc: Global, fields: &mut Fields<'_>) -> Result<Capability, Ending>
+fn front(alloc: Global, fields: &mut Fields<'_>) -> Result<Capability, CallEnding>
     ensures read { IfOk result (λ one. at_front Version.Two fields.old.bytes.now ≡ Ok (one, fields.new.bytes.now)) }
     ensures none { IfErr result (IsNoFront fields.old.bytes.now) }
 {
     match capability_at(fields, Version::Two) {
         Ok(lent) => match lent.to_capability(alloc) {
             Ok(one) => Ok(one),
-            Err(_) => Err(Ending::NoMemory),
+            Err(_) => Err(CallEnding::NoMemory),
         },
-        Err(_) => Err(Ending::BadName),
+        Err(_) => Err(CallEnding::BadName),
     }
 }
 
 /// The capability that these bytes spell.
-pub(crate) fn capability_of(alloc: Global, bytes: &[u8]) -> Result<Capability, Ending>
+pub(crate) fn capability_of(alloc: Global, bytes: &[u8]) -> Result<Capability, CallEnding>
     ensures spelled { IfOk result (SpellsCapability bytes.now) }
     ensures none { IfErr result (HasNone (SpellsCapability bytes.now)) }
 {
@@ -34,7 +34,7 @@ pub(crate) fn capability_of(alloc: Global, bytes: &[u8]) -> Result<Capability, E
         Err(ending) => return Err(ending),
     };
     if !fields.bytes.is_empty() {
-        return Err(Ending::BadName);
+        return Err(CallEnding::BadName);
     }
     Ok(one)
 }
@@ -48,7 +48,7 @@ fn listed(list: Vec<Capability>) -> CapabilityList
 }
 
 /// The capabilities that these bytes spell, one after another.
-pub(crate) fn capabilities_of(alloc: Global, bytes: &[u8]) -> Result<CapabilityList, Ending>
+pub(crate) fn capabilities_of(alloc: Global, bytes: &[u8]) -> Result<CapabilityList, CallEnding>
     ensures spelled { IfOk result (SpellsCapabilities bytes.now) }
     ensures none { IfErr result (HasNone (SpellsCapabilities bytes.now)) }
 {
@@ -63,11 +63,11 @@ pub(crate) fn capabilities_of(alloc: Global, bytes: &[u8]) -> Result<CapabilityL
             Err(ending) => return Err(ending),
         };
         let Ok(()) = list.push(one) else {
-            return Err(Ending::NoMemory);
+            return Err(CallEnding::NoMemory);
         };
     }
     if !fields.bytes.is_empty() {
-        return Err(Ending::BadName);
+        return Err(CallEnding::BadName);
     }
     Ok(listed(list))
 }

@@ -4,7 +4,7 @@ ghost use Rattle.csi_embedded.specs.Public.Asking.{command_input, AsksCreate, As
 
 use crate::capabilities::{capabilities_of, capability_of};
 use crate::command::Command;
-use crate::ending::Ending;
+use crate::ending::CallEnding;
 use crate::texts::{id_of, name_of, target_of};
 use std::alloc::Global;
 
@@ -15,7 +15,7 @@ pub(crate) fn create_of(
     required: u64,
     limit: u64,
     capabilities: &[u8],
-) -> Result<Command, Ending>
+) -> Result<Command, CallEnding>
     ensures asked { IfOk result (λ command. AsksCreate name.now required limit capabilities.now (command_input command)) }
     ensures none { IfErr result (HasNone (AsksCreate name.now required limit capabilities.now)) }
 {
@@ -42,7 +42,7 @@ pub(crate) fn use_of(
     target: &[u8],
     capability: &[u8],
     readonly: bool,
-) -> Result<Command, Ending>
+) -> Result<Command, CallEnding>
     ensures asked { IfOk result (λ command. AsksUse name.now node.now target.now capability.now readonly (command_input command)) }
     ensures none { IfErr result (HasNone (AsksUse name.now node.now target.now capability.now readonly)) }
 {
@@ -76,7 +76,7 @@ pub(crate) fn stop_of(
     name: &[u8],
     node: &[u8],
     target: &[u8],
-) -> Result<Command, Ending>
+) -> Result<Command, CallEnding>
     ensures asked { IfOk result (λ command. AsksStop name.now node.now target.now (command_input command)) }
     ensures none { IfErr result (HasNone (AsksStop name.now node.now target.now)) }
 {
@@ -95,7 +95,7 @@ pub(crate) fn stop_of(
 }
 
 /// To delete the volume of a name.
-pub(crate) fn delete_of(alloc: Global, name: &[u8]) -> Result<Command, Ending>
+pub(crate) fn delete_of(alloc: Global, name: &[u8]) -> Result<Command, CallEnding>
     ensures asked { IfOk result (λ command. AsksDelete name.now (command_input command)) }
     ensures none { IfErr result (HasNone (AsksDelete name.now)) }
 {
@@ -106,7 +106,7 @@ pub(crate) fn delete_of(alloc: Global, name: &[u8]) -> Result<Command, Ending>
 }
 
 /// That the open call of the volume of a name timed out.
-pub(crate) fn timeout_of(alloc: Global, name: &[u8]) -> Result<Command, Ending>
+pub(crate) fn timeout_of(alloc: Global, name: &[u8]) -> Result<Command, CallEnding>
     ensures asked { IfOk result (λ command. AsksTimeout name.now (command_input command)) }
     ensures none { IfErr result (HasNone (AsksTimeout name.now)) }
 {

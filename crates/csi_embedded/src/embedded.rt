@@ -2,9 +2,9 @@
 ghost use Rattle.std.specs.Prelude.{◌≡◌, [], None};
 
 use crate::command::{Command, carry_out};
-use crate::ending::Ending;
+use crate::ending::CallEnding;
 use crate::front::front;
-use crate::plugin::Plugin;
+use crate::plugin::HeldPlugin;
 use crate::splitting::{answer_next, fed, used_again};
 use csi_frames::Splitter;
 use csi_orchestrator::{Heard, OrchFault, Orchestrator};
@@ -17,7 +17,7 @@ use std::alloc::Global;
 #[derive(Drop)]
 pub struct Embedded {
     alloc: Global,
-    pub(crate) plugin: Plugin,
+    pub(crate) plugin: HeldPlugin,
     // Nothing is kept in it between calls.
     splitter: Splitter,
     pub(crate) reply: Vec<u8>,
@@ -38,7 +38,7 @@ impl Embedded {
     ghost use Rattle.csi_embedded.specs.Public.Plugins.{is_orchestrator as is_one, orchestrator_of, IsStaleTo, IsTimelyTo};
 
     /// A plugin that answered nothing yet, of which the store has to be given these parts. It takes no memory.
-    pub fn new(alloc: Global, plugin: Plugin, changed: Vec<Part>) -> Embedded
+    pub fn new(alloc: Global, plugin: HeldPlugin, changed: Vec<Part>) -> Embedded
         ensures plugin { result.plugin ≡ plugin }
         ensures told { told_changes result ≡ map part_change changed.items }
     {
@@ -63,9 +63,9 @@ impl Embedded {
         ensures { option_map (λ one. one.now) result ≡ orchestrator_of self.now.plugin }
     {
         match &self.plugin {
-            Plugin::Orchestrator(service) => Some(service.orchestrator()),
-            Plugin::Controller(_) => None,
-            Plugin::Node(_) => None,
+            HeldPlugin::Orchestrator(service) => Some(service.orchestrator()),
+            HeldPlugin::Controller(_) => None,
+            HeldPlugin::Node(_) => None,
         }
     }
 
@@ -75,22 +75,22 @@ impl Embedded {
         ensures timely { result ≡ false → IsTimelyTo frame.now self.now.plugin }
     {
         match &self.plugin {
-            Plugin::Orchestrator(service) => service.orchestrator().is_told_stale(frame),
-            Plugin::Controller(_) => false,
-            Plugin::Node(_) => false,
+            HeldPlugin::Orchestrator(service) => service.orchestrator().is_told_stale(frame),
+            HeldPlugin::Controller(_) => false,
+            HeldPlugin::Node(_) => false,
         }
     }
 
     /// Answers the frame that these bytes begin with, says how many of them it took, and leaves the bytes of its reply in `reply`, none
     /// where it has no reply. Any other ending leaves the plugin as it was, and what the store has to be given.
-    pub fn answer(&mut self, bytes: &[u8]) -> Result<usize, Ending>
+    pub fn answer(&mut self, bytes: &[u8]) -> Result<usize, CallEnding>
         ensures answered { IfOk result (λ used. AnswersFrame self.old bytes.now used self.new self.new.reply.items) }
         ensures few { OnOk result (length self.new.reply.items ≤ 544) }
         ensures why { IfErr result (IsNoAnswer self.old (frame_front bytes.now)) }
         ensures remains { OnErr result (Remains self.old self.new) }
     {
         if self.plugin.is_orchestrator() {
-            return Err(Ending::OtherKind);
+            return Err(CallEnding::OtherKind);
         }
         let bytes = front(bytes);
         let splitter = std::mem::replace(&mut self.splitter, Splitter::new(self.alloc));
@@ -151,15 +151,15 @@ impl Embedded {
         ensures { Carries Sends (command_input command) self.old result self.new }
     {
         match &mut self.plugin {
-            Plugin::Orchestrator(service) => match carry_out(service, command) {
+            HeldPlugin::Orchestrator(service) => match carry_out(service, command) {
                 Ok(sent) => {
                     let _told = self.changed.take();
                     Ok(sent)
                 }
                 Err(why) => Err(why),
             },
-            Plugin::Controller(_) => unreachable!(),
-            Plugin::Node(_) => unreachable!(),
+            HeldPlugin::Controller(_) => unreachable!(),
+            HeldPlugin::Node(_) => unreachable!(),
         }
     }
 
@@ -170,15 +170,15 @@ impl Embedded {
         ensures { Carries Hears (Comes frame.now) self.old result self.new }
     {
         match &mut self.plugin {
-            Plugin::Orchestrator(service) => match service.deliver(frame) {
+            HeldPlugin::Orchestrator(service) => match service.deliver(frame) {
                 Ok(heard) => {
                     let _told = self.changed.take();
                     Ok(heard)
                 }
                 Err(why) => Err(why),
             },
-            Plugin::Controller(_) => unreachable!(),
-            Plugin::Node(_) => unreachable!(),
+            HeldPlugin::Controller(_) => unreachable!(),
+            HeldPlugin::Node(_) => unreachable!(),
         }
     }
 
@@ -189,15 +189,15 @@ impl Embedded {
         ensures { LosesNode node.now self.old result self.new }
     {
         match &mut self.plugin {
-            Plugin::Orchestrator(service) => match service.lose(node) {
+            HeldPlugin::Orchestrator(service) => match service.lose(node) {
                 Ok(()) => {
                     let _told = self.changed.take();
                     Ok(())
                 }
                 Err(why) => Err(why),
             },
-            Plugin::Controller(_) => unreachable!(),
-            Plugin::Node(_) => unreachable!(),
+            HeldPlugin::Controller(_) => unreachable!(),
+            HeldPlugin::Node(_) => unreachable!(),
         }
     }
 }

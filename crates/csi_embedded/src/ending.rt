@@ -6,7 +6,7 @@ use csi_types::NoMemory;
 
 /// How a call ends: each has a number, which `include/tufayon.h` names. This profile's own.
 #[derive(Clone, Copy, Debug, PartialEq, Eq)]
-pub enum Ending {
+pub enum CallEnding {
     /// It was done.
     Done = 0,
     /// An allocation was refused.
@@ -55,7 +55,7 @@ pub enum Ending {
     BadRow = 22,
 }
 
-impl Ending {
+impl CallEnding {
     /// The ending's number. It takes no memory.
     pub fn number(self) -> u32
         ensures { result ≡ ending_number self }
@@ -64,13 +64,13 @@ impl Ending {
     }
 }
 
-impl From<NoMemory> for Ending {
+impl From<NoMemory> for CallEnding {
     ghost use Rattle.std.specs.Prelude.{◌≡◌};
-    ghost use Rattle.csi_embedded.specs.declared.ending.Ending.TheVariants.{NoMemory as Refused};
+    ghost use Rattle.csi_embedded.specs.declared.ending.CallEnding.TheVariants.{NoMemory as Refused};
 
     ghost from_gives = { λ _ ending. ending ≡ Refused };
 
-    fn from(_refused: NoMemory) -> Ending {
-        Ending::NoMemory
+    fn from(_refused: NoMemory) -> CallEnding {
+        CallEnding::NoMemory
     }
 }

@@ -9,7 +9,7 @@ ghost use Rattle.csi_embedded.specs.Public.Making.{IsNoConfig, IsNoId, IsNoReadC
 
 use crate::copying::{copy, copy_part};
 use crate::embedded::Embedded;
-use crate::ending::Ending;
+use crate::ending::CallEnding;
 use crate::handle::Handle;
 use crate::making::{new_controller, new_node, read_controller, read_node};
 use std::alloc::Global;
@@ -21,7 +21,7 @@ const REPLY_ROOM: usize = 544;
 pub(crate) fn put(
     alloc: Global,
     plugin: &mut Handle,
-    made: Result<(Embedded, Ending), Ending>,
+    made: Result<(Embedded, CallEnding), CallEnding>,
 ) -> u32
     requires { plugin.old.held.embedded ≡ None }
     ensures { GivesHandle made plugin.new.held.embedded result }
@@ -32,7 +32,7 @@ pub(crate) fn put(
                 *plugin = Handle::of(embedded);
                 ending.number()
             }
-            Err(_) => Ending::NoMemory.number(),
+            Err(_) => CallEnding::NoMemory.number(),
         },
         Err(ending) => ending.number(),
     }
@@ -46,7 +46,7 @@ pub extern "C" fn tufayon_controller_new(alloc: Global, config: &[u8], plugin: &
         × EndsDone ending) (IsNoConfig config.now) plugin.old.held.embedded plugin.new.held.embedded result }
 {
     if plugin.is_full() {
-        return Ending::Full.number();
+        return CallEnding::Full.number();
     }
     put(alloc, plugin, new_controller(alloc, config))
 }
@@ -59,7 +59,7 @@ pub extern "C" fn tufayon_node_new(alloc: Global, id: &[u8], plugin: &mut Handle
         × EndsDone ending) (IsNoId id.now) plugin.old.held.embedded plugin.new.held.embedded result }
 {
     if plugin.is_full() {
-        return Ending::Full.number();
+        return CallEnding::Full.number();
     }
     put(alloc, plugin, new_node(alloc, id, 0))
 }
@@ -76,7 +76,7 @@ pub extern "C" fn tufayon_controller_from_record(
     ensures { Makes (IsReadController config.now bytes.now) (IsNoReadController config.now bytes.now) plugin.old.held.embedded plugin.new.held.embedded result }
 {
     if plugin.is_full() {
-        return Ending::Full.number();
+        return CallEnding::Full.number();
     }
     put(alloc, plugin, read_controller(alloc, config, bytes))
 }
@@ -92,7 +92,7 @@ pub extern "C" fn tufayon_node_from_record(
     ensures { Makes (IsReadNode id.now 0 bytes.now) (IsNoReadNode id.now 0 bytes.now) plugin.old.held.embedded plugin.new.held.embedded result }
 {
     if plugin.is_full() {
-        return Ending::Full.number();
+        return CallEnding::Full.number();
     }
     put(alloc, plugin, read_node(alloc, id, 0, bytes))
 }
@@ -104,20 +104,20 @@ fn answer(
     used: &mut usize,
     reply: &mut [u8],
     written: &mut usize,
-) -> Ending
-    ensures done { result ≡ Ending.Done → AnswersFrame embedded.old frame.now used.new embedded.new (take written.new reply.new) }
-    ensures room { result ≡ Ending.Done → written.new ≤ length reply.new }
-    ensures why { result ≢ Ending.Done → IsUnanswered (Some embedded.old) frame.now (length reply.old) result }
-    ensures remains { result ≢ Ending.Done → Remains embedded.old embedded.new }
+) -> CallEnding
+    ensures done { result ≡ CallEnding.Done → AnswersFrame embedded.old frame.now used.new embedded.new (take written.new reply.new) }
+    ensures room { result ≡ CallEnding.Done → written.new ≤ length reply.new }
+    ensures why { result ≢ CallEnding.Done → IsUnanswered (Some embedded.old) frame.now (length reply.old) result }
+    ensures remains { result ≢ CallEnding.Done → Remains embedded.old embedded.new }
 {
     if reply.len() < REPLY_ROOM {
-        return Ending::NoRoom;
+        return CallEnding::NoRoom;
     }
     match embedded.answer(frame) {
         Ok(count) => {
             *used = count;
             match copy(&embedded.reply, reply, written) {
-                Ok(()) => Ending::Done,
+                Ok(()) => CallEnding::Done,
                 Err(ending) => ending,
             }
         }
@@ -146,7 +146,7 @@ pub extern "C" fn tufayon_answer(
             *plugin = Handle::of(embedded);
             ending.number()
         }
-        None => Ending::Empty.number(),
+        None => CallEnding::Empty.number(),
     }
 }
 
@@ -157,16 +157,16 @@ fn change(
     key: &mut u64,
     value: &mut [u8],
     written: &mut usize,
-) -> Ending
+) -> CallEnding
     ensures told { TellsAt (Some embedded.old) place key.new (length value.old) written.new (take written.new value.new) result }
     ensures remains { Remains embedded.old embedded.new }
 {
     if embedded.tell().is_err() {
-        return Ending::NoMemory;
+        return CallEnding::NoMemory;
     }
     match embedded.changes().get(place) {
         Some(part) => copy_part(part, key, value, written),
-        None => Ending::NoMore,
+        None => CallEnding::NoMore,
     }
 }
 
@@ -191,20 +191,20 @@ pub extern "C" fn tufayon_changed(
             *plugin = Handle::of(embedded);
             ending.number()
         }
-        None => Ending::Empty.number(),
+        None => CallEnding::Empty.number(),
     }
 }
 
 // The bytes of the whole record, copied.
-fn record(alloc: Global, embedded: &Embedded, bytes: &mut [u8], written: &mut usize) -> Ending
+fn record(alloc: Global, embedded: &Embedded, bytes: &mut [u8], written: &mut usize) -> CallEnding
     ensures { TellsRecord (Some embedded.now) (length bytes.old) written.new (take written.new bytes.new) result }
 {
     match embedded.plugin.record(alloc) {
         Ok(whole) => match copy(&whole, bytes, written) {
-            Ok(()) => Ending::Done,
+            Ok(()) => CallEnding::Done,
             Err(ending) => ending,
         },
-        Err(_) => Ending::NoMemory,
+        Err(_) => CallEnding::NoMemory,
     }
 }
 
@@ -225,7 +225,7 @@ pub extern "C" fn tufayon_record(
             *plugin = Handle::of(embedded);
             ending.number()
         }
-        None => Ending::Empty.number(),
+        None => CallEnding::Empty.number(),
     }
 }
 

@@ -1,7 +1,7 @@
 //! What a C program calls for a node that joins with a session, as `include/tufayon.h` declares it.
 ghost use Rattle.csi_embedded.specs.Public.Making.{Makes, IsNewNode, IsReadNode, EndsDone, IsNoId, IsNoReadNode};
 
-use crate::ending::Ending;
+use crate::ending::CallEnding;
 use crate::exports::put;
 use crate::handle::Handle;
 use crate::making::{new_node, read_node};
@@ -19,7 +19,7 @@ pub extern "C" fn tufayon_node_joined(
     ensures { Makes (λ made ending. IsNewNode id.now session made × EndsDone ending) (IsNoId id.now) plugin.old.held.embedded plugin.new.held.embedded result }
 {
     if plugin.is_full() {
-        return Ending::Full.number();
+        return CallEnding::Full.number();
     }
     put(alloc, plugin, new_node(alloc, id, session))
 }
@@ -37,7 +37,7 @@ pub extern "C" fn tufayon_node_joined_from_record(
     ensures { Makes (IsReadNode id.now session bytes.now) (IsNoReadNode id.now session bytes.now) plugin.old.held.embedded plugin.new.held.embedded result }
 {
     if plugin.is_full() {
-        return Ending::Full.number();
+        return CallEnding::Full.number();
     }
     put(alloc, plugin, read_node(alloc, id, session, bytes))
 }

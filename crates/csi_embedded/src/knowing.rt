@@ -7,7 +7,7 @@ ghost use Rattle.csi_embedded.specs.Public.Knowing.{TellsThing, TellsGoal, Tells
 
 use crate::copying::copy;
 use crate::embedded::Embedded;
-use crate::ending::Ending;
+use crate::ending::CallEnding;
 use csi_frames::{append_byte, append_capability, append_flag, append_node_id, append_target};
 use csi_orchestrator::{Goal, Known, Orchestrator, Thing};
 use csi_types::{Name, NoMemory};
@@ -25,24 +25,24 @@ fn number_of(known: Known) -> u32
 }
 
 /// What the orchestrator knows of a thing.
-pub(crate) fn know(embedded: &Embedded, thing: &Thing, known: &mut u32) -> Ending
+pub(crate) fn know(embedded: &Embedded, thing: &Thing, known: &mut u32) -> CallEnding
     ensures { TellsThing (λ one. one ≡ thing.now) embedded.now known.new result }
 {
     match embedded.orchestrator() {
         Some(orchestrator) => {
             *known = number_of(orchestrator.known(thing));
-            Ending::Done
+            CallEnding::Done
         }
-        None => Ending::OtherKind,
+        None => CallEnding::OtherKind,
     }
 }
 
 /// Copies all bytes, or says how many there are.
-pub(crate) fn fill(bytes: &[u8], room: &mut [u8], written: &mut usize) -> Ending
+pub(crate) fn fill(bytes: &[u8], room: &mut [u8], written: &mut usize) -> CallEnding
     ensures { Fills bytes.now (length room.old) written.new (take written.new room.new) result }
 {
     match copy(bytes, room, written) {
-        Ok(()) => Ending::Done,
+        Ok(()) => CallEnding::Done,
         Err(ending) => ending,
     }
 }
@@ -50,9 +50,9 @@ pub(crate) fn fill(bytes: &[u8], room: &mut [u8], written: &mut usize) -> Ending
 /// What the orchestrator knows of the thing that was read, if one was.
 pub(crate) fn know_read(
     embedded: &Embedded,
-    thing: &Result<Thing, Ending>,
+    thing: &Result<Thing, CallEnding>,
     known: &mut u32,
-) -> Ending
+) -> CallEnding
     ensures { TellsRead thing.now embedded.now known.new result }
 {
     match thing {
@@ -67,15 +67,15 @@ pub(crate) fn volume(
     place: usize,
     name: &mut [u8],
     written: &mut usize,
-) -> Ending
+) -> CallEnding
     ensures { TellsVolume place embedded.now (length name.old) written.new (take written.new name.new) result }
 {
     match embedded.orchestrator() {
         Some(orchestrator) => match orchestrator.rows().get(place) {
             Some(row) => fill(row.name.as_str().as_bytes(), name, written),
-            None => Ending::NoMore,
+            None => CallEnding::NoMore,
         },
-        None => Ending::OtherKind,
+        None => CallEnding::OtherKind,
     }
 }
 
@@ -124,14 +124,14 @@ pub(crate) fn goal(
     name: &Name,
     goal: &mut [u8],
     written: &mut usize,
-) -> Ending
+) -> CallEnding
     ensures { TellsGoal (λ one. one ≡ name.now) embedded.now (length goal.old) written.new (take written.new goal.new) result }
 {
     match embedded.orchestrator() {
         Some(orchestrator) => match wanted(alloc, orchestrator, name) {
             Ok(bytes) => fill(&bytes, goal, written),
-            Err(_) => Ending::NoMemory,
+            Err(_) => CallEnding::NoMemory,
         },
-        None => Ending::OtherKind,
+        None => CallEnding::OtherKind,
     }
 }

@@ -3,22 +3,22 @@ ghost use Rattle.csi_embedded.specs.Public.Losing.{LosesOne};
 ghost use Rattle.csi_embedded.specs.Private.Losing.{LosesRead};
 
 use crate::embedded::Embedded;
-use crate::ending::Ending;
+use crate::ending::CallEnding;
 use crate::sending::refuse;
 use csi_types::NodeId;
 
 // Takes the node as lost.
-fn lose_node(embedded: &mut Embedded, node: &NodeId, fault: &mut u32) -> Ending
+fn lose_node(embedded: &mut Embedded, node: &NodeId, fault: &mut u32) -> CallEnding
     ensures { LosesOne node.now embedded.old embedded.new fault.new result }
 {
     if !embedded.is_orchestrator() {
-        return Ending::OtherKind;
+        return CallEnding::OtherKind;
     }
     let Ok(()) = embedded.tell() else {
-        return Ending::NoMemory;
+        return CallEnding::NoMemory;
     };
     match embedded.lose(node) {
-        Ok(()) => Ending::Done,
+        Ok(()) => CallEnding::Done,
         Err(why) => refuse(why, fault),
     }
 }
@@ -26,9 +26,9 @@ fn lose_node(embedded: &mut Embedded, node: &NodeId, fault: &mut u32) -> Ending
 /// Takes the node as lost whose id was read, if one was.
 pub(crate) fn lose_read(
     embedded: &mut Embedded,
-    node: Result<NodeId, Ending>,
+    node: Result<NodeId, CallEnding>,
     fault: &mut u32,
-) -> Ending
+) -> CallEnding
     ensures { LosesRead node embedded.old embedded.new fault.new result }
 {
     match node {

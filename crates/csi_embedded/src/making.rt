@@ -7,8 +7,8 @@ ghost use Rattle.csi_embedded.specs.Public.Making.{IsNoConfig, IsNoId, IsNoReadC
 ghost use Rattle.csi_embedded.specs.Private.Making.{IsEndingOf};
 
 use crate::embedded::Embedded;
-use crate::ending::Ending;
-use crate::plugin::Plugin;
+use crate::ending::CallEnding;
+use crate::plugin::HeldPlugin;
 use crate::texts::id_of;
 use csi_controller::ControllerRecord;
 use csi_json::{ScheduleFault, read_config};
@@ -22,17 +22,17 @@ use csi_types::{Config, NoMemory};
 use std::alloc::Global;
 
 /// The configuration that these bytes say.
-pub(crate) fn config_of(alloc: Global, bytes: &[u8]) -> Result<Config, Ending>
+pub(crate) fn config_of(alloc: Global, bytes: &[u8]) -> Result<Config, CallEnding>
     ensures made { IfOk result (λ config. text_config bytes.now ≡ Ok config) }
     ensures refused { IfErr result (IsNoConfig bytes.now) }
 {
     let Ok(text) = str::from_utf8(bytes) else {
-        return Err(Ending::BadName);
+        return Err(CallEnding::BadName);
     };
     match read_config(alloc, text) {
         Ok(config) => Ok(config),
-        Err(ScheduleFault::NoMemory) => Err(Ending::NoMemory),
-        Err(_) => Err(Ending::BadName),
+        Err(ScheduleFault::NoMemory) => Err(CallEnding::NoMemory),
+        Err(_) => Err(CallEnding::BadName),
     }
 }
 
@@ -53,28 +53,28 @@ fn renewal<T: Record>(
     alloc: Global,
     kept: &T,
     version: RecordVersion,
-) -> Result<(Vec<Part>, Ending), NoMemory>
+) -> Result<(Vec<Part>, CallEnding), NoMemory>
     ensures { IfOk result (λ given. Renews version (T.parts_of kept.now) (map part_change given.0.items) given.1) }
 {
     if is_present(version) {
-        Ok((Vec::new(alloc), Ending::Done))
+        Ok((Vec::new(alloc), CallEnding::Done))
     } else {
-        Ok((kept.to_parts(alloc)?, Ending::Renewed))
+        Ok((kept.to_parts(alloc)?, CallEnding::Renewed))
     }
 }
 
 /// How a call ends for which no record was read.
-pub(crate) fn ending_of(stop: RecordStop) -> Ending
+pub(crate) fn ending_of(stop: RecordStop) -> CallEnding
     ensures { IsEndingOf stop result }
 {
     match stop {
-        RecordStop::BadRecord(_) => Ending::BadRecord,
-        RecordStop::NoMemory => Ending::NoMemory,
+        RecordStop::BadRecord(_) => CallEnding::BadRecord,
+        RecordStop::NoMemory => CallEnding::NoMemory,
     }
 }
 
 /// The controller under the configuration that these bytes say, which has no volume. The store has to be given its record.
-pub(crate) fn new_controller(alloc: Global, config: &[u8]) -> Result<(Embedded, Ending), Ending>
+pub(crate) fn new_controller(alloc: Global, config: &[u8]) -> Result<(Embedded, CallEnding), CallEnding>
     ensures made { IfOk result (λ made. IsNewController config.now made.0 × EndsDone made.1) }
     ensures refused { IfErr result (IsNoConfig config.now) }
 {
@@ -82,13 +82,13 @@ pub(crate) fn new_controller(alloc: Global, config: &[u8]) -> Result<(Embedded, 
     let head = head_part(alloc, controller_head_value(alloc, 1, 0)?)?;
     let service = ControllerService::new(alloc, config);
     Ok((
-        Embedded::new(alloc, Plugin::Controller(service), head),
-        Ending::Done,
+        Embedded::new(alloc, HeldPlugin::Controller(service), head),
+        CallEnding::Done,
     ))
 }
 
 /// The node of this id that joins with this session, which has no volume. The store has to be given its record.
-pub(crate) fn new_node(alloc: Global, id: &[u8], session: u64) -> Result<(Embedded, Ending), Ending>
+pub(crate) fn new_node(alloc: Global, id: &[u8], session: u64) -> Result<(Embedded, CallEnding), CallEnding>
     ensures made { IfOk result (λ made. IsNewNode id.now session made.0 × EndsDone made.1) }
     ensures refused { IfErr result (IsNoId id.now) }
 {
@@ -96,8 +96,8 @@ pub(crate) fn new_node(alloc: Global, id: &[u8], session: u64) -> Result<(Embedd
     let head = head_part(alloc, node_head_value(alloc, &id, session)?)?;
     let service = NodeService::new(alloc, id, session)?;
     Ok((
-        Embedded::new(alloc, Plugin::Node(service), head),
-        Ending::Done,
+        Embedded::new(alloc, HeldPlugin::Node(service), head),
+        CallEnding::Done,
     ))
 }
 
@@ -107,7 +107,7 @@ pub(crate) fn read_controller(
     alloc: Global,
     config: &[u8],
     bytes: &[u8],
-) -> Result<(Embedded, Ending), Ending>
+) -> Result<(Embedded, CallEnding), CallEnding>
     ensures made { IfOk result (λ made. IsReadController config.now bytes.now made.0 made.1) }
     ensures refused { IfErr result (IsNoReadController config.now bytes.now) }
 {
@@ -119,7 +119,7 @@ pub(crate) fn read_controller(
     let (changed, ending) = renewal(alloc, &kept, version)?;
     let service = ControllerService::from_record(alloc, config, kept)?;
     Ok((
-        Embedded::new(alloc, Plugin::Controller(service), changed),
+        Embedded::new(alloc, HeldPlugin::Controller(service), changed),
         ending,
     ))
 }
@@ -131,7 +131,7 @@ pub(crate) fn read_node(
     id: &[u8],
     session: u64,
     bytes: &[u8],
-) -> Result<(Embedded, Ending), Ending>
+) -> Result<(Embedded, CallEnding), CallEnding>
     ensures made { IfOk result (λ made. IsReadNode id.now session bytes.now made.0 made.1) }
     ensures refused { IfErr result (IsNoReadNode id.now session bytes.now) }
 {
@@ -141,12 +141,12 @@ pub(crate) fn read_node(
         Err(stop) => return Err(ending_of(stop)),
     };
     if *kept.id() != id {
-        return Err(Ending::BadRecord);
+        return Err(CallEnding::BadRecord);
     }
     if kept.session() < session {
-        return Err(Ending::EarlierSession);
+        return Err(CallEnding::EarlierSession);
     }
     let (changed, ending) = renewal(alloc, &kept, version)?;
     let service = NodeService::from_record(alloc, kept)?;
-    Ok((Embedded::new(alloc, Plugin::Node(service), changed), ending))
+    Ok((Embedded::new(alloc, HeldPlugin::Node(service), changed), ending))
 }

@@ -14,7 +14,7 @@ ghost use Rattle.csi_embedded.specs.Private.Knowing.{GivesKnown};
 use crate::asking::{ask_read, hear};
 use crate::command::Command;
 use crate::commands::{create_of, delete_of, stop_of, timeout_of, use_of};
-use crate::ending::Ending;
+use crate::ending::CallEnding;
 use crate::exports::put;
 use crate::handle::Handle;
 use crate::knowing::{goal, know_read, volume};
@@ -38,7 +38,7 @@ pub extern "C" fn tufayon_orchestrator_new(
         orchestrator.old.held.embedded orchestrator.new.held.embedded result }
 {
     if orchestrator.is_full() {
-        return Ending::Full.number();
+        return CallEnding::Full.number();
     }
     put(alloc, orchestrator, new_orchestrator(alloc, config))
 }
@@ -58,7 +58,7 @@ pub extern "C" fn tufayon_orchestrator_from_record(
         orchestrator.old.held.embedded orchestrator.new.held.embedded result }
 {
     if orchestrator.is_full() {
-        return Ending::Full.number();
+        return CallEnding::Full.number();
     }
     put(alloc, orchestrator, read_orchestrator(alloc, config, bytes))
 }
@@ -67,7 +67,7 @@ pub extern "C" fn tufayon_orchestrator_from_record(
 fn ask_handle(
     alloc: Global,
     orchestrator: &mut Handle,
-    command: Result<Command, Ending>,
+    command: Result<Command, CallEnding>,
     frame: &mut [u8],
     written: &mut usize,
     fault: &mut u32,
@@ -81,7 +81,7 @@ fn ask_handle(
             *orchestrator = Handle::of(embedded);
             ending.number()
         }
-        None => Ending::Empty.number(),
+        None => CallEnding::Empty.number(),
     }
 }
 
@@ -207,7 +207,7 @@ pub extern "C" fn tufayon_deliver(
             *orchestrator = Handle::of(embedded);
             ending.number()
         }
-        None => Ending::Empty.number(),
+        None => CallEnding::Empty.number(),
     }
 }
 
@@ -215,7 +215,7 @@ pub extern "C" fn tufayon_deliver(
 fn lose_handle(
     alloc: Global,
     orchestrator: &mut Handle,
-    node: Result<NodeId, Ending>,
+    node: Result<NodeId, CallEnding>,
     fault: &mut u32,
 ) -> u32
     ensures { GivesLost node orchestrator.old.held.embedded orchestrator.new.held.embedded fault.new result }
@@ -226,7 +226,7 @@ fn lose_handle(
             *orchestrator = Handle::of(embedded);
             ending.number()
         }
-        None => Ending::Empty.number(),
+        None => CallEnding::Empty.number(),
     }
 }
 
@@ -249,7 +249,7 @@ pub extern "C" fn tufayon_orchestrator_lose(
 fn know_handle(
     alloc: Global,
     orchestrator: &mut Handle,
-    thing: Result<Thing, Ending>,
+    thing: Result<Thing, CallEnding>,
     known: &mut u32,
 ) -> u32
     ensures known { GivesKnown thing orchestrator.old.held.embedded known.new result }
@@ -261,7 +261,7 @@ fn know_handle(
             *orchestrator = Handle::of(embedded);
             ending.number()
         }
-        None => Ending::Empty.number(),
+        None => CallEnding::Empty.number(),
     }
 }
 
@@ -352,7 +352,7 @@ pub extern "C" fn tufayon_goal(
             *orchestrator = Handle::of(embedded);
             ending.number()
         }
-        None => Ending::Empty.number(),
+        None => CallEnding::Empty.number(),
     }
 }
 
@@ -375,6 +375,6 @@ pub extern "C" fn tufayon_volume(
             *orchestrator = Handle::of(embedded);
             ending.number()
         }
-        None => Ending::Empty.number(),
+        None => CallEnding::Empty.number(),
     }
 }

@@ -9,9 +9,9 @@ ghost use Rattle.csi_embedded.specs.Public.OrchestratorMaking.{IsRecordIfAny, Is
 ghost use Rattle.csi_embedded.specs.Private.OrchestratorMaking.{IsNoRecord, IsNotReopened};
 
 use crate::embedded::Embedded;
-use crate::ending::Ending;
+use crate::ending::CallEnding;
 use crate::making::{config_of, ending_of};
-use crate::plugin::Plugin;
+use crate::plugin::HeldPlugin;
 use csi_orchestrator::{OrchRecordFault, OrchestratorRecord};
 use csi_records::{Stored, read_record};
 use csi_service::{OrchestratorService, OrchestratorUnopened};
@@ -31,7 +31,7 @@ fn ids_of(alloc: Global, nodes: &[NodeSlots]) -> Result<Vec<NodeId>, NoMemory>
 }
 
 /// The nodes of the configuration that these bytes say.
-pub(crate) fn nodes_of(alloc: Global, config: &[u8]) -> Result<Vec<NodeId>, Ending>
+pub(crate) fn nodes_of(alloc: Global, config: &[u8]) -> Result<Vec<NodeId>, CallEnding>
     ensures made { IfOk result (λ ids. AreNodesOf config.now ids.items) }
     ensures refused { IfErr result (IsNoNodes config.now) }
 {
@@ -41,21 +41,21 @@ pub(crate) fn nodes_of(alloc: Global, config: &[u8]) -> Result<Vec<NodeId>, Endi
     };
     match ids_of(alloc, config.nodes()) {
         Ok(ids) => Ok(ids),
-        Err(_) => Err(Ending::NoMemory),
+        Err(_) => Err(CallEnding::NoMemory),
     }
 }
 
 /// The orchestrator, of which the store has to be given what its opening changed.
 pub(crate) fn embedded(alloc: Global, service: OrchestratorService) -> Result<Embedded, NoMemory>
-    ensures plugin { IfOk result (λ made. made.plugin ≡ Plugin.Orchestrator service) }
+    ensures plugin { IfOk result (λ made. made.plugin ≡ HeldPlugin.Orchestrator service) }
     ensures told { IfOk result (λ made. told_changes made ≡ orchestrator_service_changes service) }
 {
     let changed = service.parts()?;
-    Ok(Embedded::new(alloc, Plugin::Orchestrator(service), changed))
+    Ok(Embedded::new(alloc, HeldPlugin::Orchestrator(service), changed))
 }
 
 /// The orchestrator of the configuration's nodes that did nothing, in session 1. The store has to be given its record.
-pub(crate) fn new_orchestrator(alloc: Global, config: &[u8]) -> Result<(Embedded, Ending), Ending>
+pub(crate) fn new_orchestrator(alloc: Global, config: &[u8]) -> Result<(Embedded, CallEnding), CallEnding>
     ensures made { IfOk result (λ made. IsNewOrchestrator config.now made.0 × EndsDone made.1) }
     ensures refused { IfErr result (IsNoOrchestrator config.now) }
 {
@@ -65,17 +65,17 @@ pub(crate) fn new_orchestrator(alloc: Global, config: &[u8]) -> Result<(Embedded
     };
     let service = match OrchestratorService::new(alloc, nodes) {
         Ok(service) => service,
-        Err(OrchRecordFault::NoMemory) => return Err(Ending::NoMemory),
-        Err(_) => return Err(Ending::BadName),
+        Err(OrchRecordFault::NoMemory) => return Err(CallEnding::NoMemory),
+        Err(_) => return Err(CallEnding::BadName),
     };
     match embedded(alloc, service) {
-        Ok(made) => Ok((made, Ending::Done)),
-        Err(_) => Err(Ending::NoMemory),
+        Ok(made) => Ok((made, CallEnding::Done)),
+        Err(_) => Err(CallEnding::NoMemory),
     }
 }
 
 // The orchestrator's record whose bytes these are.
-fn record_of(alloc: Global, bytes: &[u8]) -> Result<OrchestratorRecord, Ending>
+fn record_of(alloc: Global, bytes: &[u8]) -> Result<OrchestratorRecord, CallEnding>
     ensures read { IfOk result (IsOrchestratorRecord bytes.now) }
     ensures refused { IfErr result (IsNoRecord bytes.now) }
 {
@@ -86,7 +86,7 @@ fn record_of(alloc: Global, bytes: &[u8]) -> Result<OrchestratorRecord, Ending>
 }
 
 // The same, or the record before the first session, where there are no bytes.
-fn record_if_any(alloc: Global, bytes: &[u8]) -> Result<OrchestratorRecord, Ending>
+fn record_if_any(alloc: Global, bytes: &[u8]) -> Result<OrchestratorRecord, CallEnding>
     ensures read { IfOk result (IsRecordIfAny bytes.now) }
     ensures refused { IfErr result (IsNoRecord bytes.now) }
 {
@@ -95,24 +95,24 @@ fn record_if_any(alloc: Global, bytes: &[u8]) -> Result<OrchestratorRecord, Endi
     }
     match OrchestratorRecord::try_new(alloc, Vec::new(alloc), 0, Vec::new(alloc)) {
         Ok(new) => Ok(new),
-        Err(_) => Err(Ending::NoMemory),
+        Err(_) => Err(CallEnding::NoMemory),
     }
 }
 
 // The orchestrator of a record, after a restart with these nodes.
-fn reopened(alloc: Global, kept: OrchestratorRecord, nodes: Vec<NodeId>) -> Result<Embedded, Ending>
+fn reopened(alloc: Global, kept: OrchestratorRecord, nodes: Vec<NodeId>) -> Result<Embedded, CallEnding>
     ensures made { IfOk result (IsReopened kept nodes.items) }
     ensures refused { IfErr result (IsNotReopened kept nodes.items) }
 {
     let service = match OrchestratorService::from_record(alloc, kept, nodes) {
         Ok(service) => service,
-        Err(OrchestratorUnopened::BadNodes) => return Err(Ending::BadName),
-        Err(OrchestratorUnopened::NodeInUse) => return Err(Ending::NodeInUse),
-        Err(_) => return Err(Ending::Refused),
+        Err(OrchestratorUnopened::BadNodes) => return Err(CallEnding::BadName),
+        Err(OrchestratorUnopened::NodeInUse) => return Err(CallEnding::NodeInUse),
+        Err(_) => return Err(CallEnding::Refused),
     };
     match embedded(alloc, service) {
         Ok(made) => Ok(made),
-        Err(_) => Err(Ending::NoMemory),
+        Err(_) => Err(CallEnding::NoMemory),
     }
 }
 
@@ -122,14 +122,14 @@ pub(crate) fn read_orchestrator(
     alloc: Global,
     config: &[u8],
     bytes: &[u8],
-) -> Result<(Embedded, Ending), Ending>
+) -> Result<(Embedded, CallEnding), CallEnding>
     ensures made { IfOk result (λ made. IsReadOrchestrator config.now bytes.now made.0 × EndsDone made.1) }
     ensures refused { IfErr result (IsNoReadOrchestrator config.now bytes.now) }
 {
     let nodes = nodes_of(alloc, config)?;
     let kept = record_of(alloc, bytes)?;
     match reopened(alloc, kept, nodes) {
-        Ok(made) => Ok((made, Ending::Done)),
+        Ok(made) => Ok((made, CallEnding::Done)),
         Err(ending) => Err(ending),
     }
 }
@@ -141,7 +141,7 @@ pub(crate) fn open_orchestrator(
     config: &[u8],
     bytes: &[u8],
     session: u64,
-) -> Result<(Embedded, Ending), Ending>
+) -> Result<(Embedded, CallEnding), CallEnding>
     ensures made { IfOk result (λ made. IsOpenedOrchestrator config.now bytes.now session made.0 × EndsDone made.1) }
     ensures refused { IfErr result (IsNotOpened config.now bytes.now session) }
 {
@@ -149,7 +149,7 @@ pub(crate) fn open_orchestrator(
     let mut kept = record_if_any(alloc, bytes)?;
     kept.raise(session.saturating_sub(1));
     match reopened(alloc, kept, nodes) {
-        Ok(made) => Ok((made, Ending::Done)),
+        Ok(made) => Ok((made, CallEnding::Done)),
         Err(ending) => Err(ending),
     }
 }

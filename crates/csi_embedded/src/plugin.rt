@@ -9,7 +9,7 @@ ghost use Rattle.csi_embedded.specs.Public.Raising.{RaisesPlugin};
 ghost use Rattle.csi_embedded.specs.Public.Recovering.{is_controller, is_node};
 ghost use Rattle.csi_embedded.specs.Private.Recovering.{IsControllerRecord, IsNodeRecord, IsUnkept};
 
-use crate::ending::Ending;
+use crate::ending::CallEnding;
 use csi_controller::ControllerRecord;
 use csi_frames::FrameRef;
 use csi_node::NodeRecord;
@@ -20,21 +20,21 @@ use std::alloc::Global;
 
 /// A controller, a node or an orchestrator, with what its last call changed.
 #[derive(Drop)]
-pub enum Plugin {
+pub enum HeldPlugin {
     Controller(ControllerService),
     Node(NodeService),
     Orchestrator(OrchestratorService),
 }
 
-impl Plugin {
+impl HeldPlugin {
     /// Whether it is an orchestrator. It takes no memory.
     pub fn is_orchestrator(&self) -> bool
         ensures { result ≡ is_one self.now }
     {
         match self {
-            Plugin::Orchestrator(_) => true,
-            Plugin::Controller(_) => false,
-            Plugin::Node(_) => false,
+            HeldPlugin::Orchestrator(_) => true,
+            HeldPlugin::Controller(_) => false,
+            HeldPlugin::Node(_) => false,
         }
     }
 
@@ -48,9 +48,9 @@ impl Plugin {
         ensures err { OnErr result (IsAsItWas self.old self.new) }
     {
         match self {
-            Plugin::Controller(service) => service.answer_into(frame, out),
-            Plugin::Node(service) => service.answer_into(frame, out),
-            Plugin::Orchestrator(_) => unreachable!(),
+            HeldPlugin::Controller(service) => service.answer_into(frame, out),
+            HeldPlugin::Node(service) => service.answer_into(frame, out),
+            HeldPlugin::Orchestrator(_) => unreachable!(),
         }
     }
 
@@ -63,9 +63,9 @@ impl Plugin {
         ensures err { OnErr result (self.new ≡ self.old) }
     {
         match self {
-            Plugin::Controller(service) => service.raise(session),
-            Plugin::Node(service) => service.raise(session),
-            Plugin::Orchestrator(_) => unreachable!(),
+            HeldPlugin::Controller(service) => service.raise(session),
+            HeldPlugin::Node(service) => service.raise(session),
+            HeldPlugin::Orchestrator(_) => unreachable!(),
         }
     }
 
@@ -74,9 +74,9 @@ impl Plugin {
         ensures { IfOk result (λ parts. map part_change parts.items ≡ plugin_changes self.now) }
     {
         match self {
-            Plugin::Controller(service) => service.parts(),
-            Plugin::Node(service) => service.parts(),
-            Plugin::Orchestrator(service) => service.parts(),
+            HeldPlugin::Controller(service) => service.parts(),
+            HeldPlugin::Node(service) => service.parts(),
+            HeldPlugin::Orchestrator(service) => service.parts(),
         }
     }
 
@@ -85,45 +85,45 @@ impl Plugin {
         ensures { IfOk result (λ bytes. IsPluginRecord self.now bytes.items) }
     {
         match self {
-            Plugin::Controller(service) => {
+            HeldPlugin::Controller(service) => {
                 let kept = service.record()?;
                 write_record(alloc, &kept)
             }
-            Plugin::Node(service) => {
+            HeldPlugin::Node(service) => {
                 let kept = service.record()?;
                 write_record(alloc, &kept)
             }
-            Plugin::Orchestrator(service) => write_orchestrator(alloc, service.orchestrator()),
+            HeldPlugin::Orchestrator(service) => write_orchestrator(alloc, service.orchestrator()),
         }
     }
 
     /// The record of a controller.
-    pub fn controller_record(&self) -> Result<ControllerRecord, Ending>
+    pub fn controller_record(&self) -> Result<ControllerRecord, CallEnding>
         ensures kept { IfOk result (IsControllerRecord self.now) }
         ensures none { IfErr result (IsUnkept is_controller self.now) }
     {
         match self {
-            Plugin::Controller(service) => match service.record() {
+            HeldPlugin::Controller(service) => match service.record() {
                 Ok(kept) => Ok(kept),
-                Err(_) => Err(Ending::NoMemory),
+                Err(_) => Err(CallEnding::NoMemory),
             },
-            Plugin::Node(_) => Err(Ending::OtherKind),
-            Plugin::Orchestrator(_) => Err(Ending::OtherKind),
+            HeldPlugin::Node(_) => Err(CallEnding::OtherKind),
+            HeldPlugin::Orchestrator(_) => Err(CallEnding::OtherKind),
         }
     }
 
     /// The record of a node.
-    pub fn node_record(&self) -> Result<NodeRecord, Ending>
+    pub fn node_record(&self) -> Result<NodeRecord, CallEnding>
         ensures kept { IfOk result (IsNodeRecord self.now) }
         ensures none { IfErr result (IsUnkept is_node self.now) }
     {
         match self {
-            Plugin::Node(service) => match service.record() {
+            HeldPlugin::Node(service) => match service.record() {
                 Ok(kept) => Ok(kept),
-                Err(_) => Err(Ending::NoMemory),
+                Err(_) => Err(CallEnding::NoMemory),
             },
-            Plugin::Controller(_) => Err(Ending::OtherKind),
-            Plugin::Orchestrator(_) => Err(Ending::OtherKind),
+            HeldPlugin::Controller(_) => Err(CallEnding::OtherKind),
+            HeldPlugin::Orchestrator(_) => Err(CallEnding::OtherKind),
         }
     }
 }

@@ -7,7 +7,7 @@ ghost use Rattle.csi_embedded.specs.Private.Recovering.{IsControllerRecord, IsNo
 ghost use Rattle.csi_embedded.specs.Private.Recovering.{IsMadeOf, IsUnmadeOf, EndsUnrecovered, IsOpenedNew, IsNotOpenedNew};
 
 use crate::embedded::Embedded;
-use crate::ending::Ending;
+use crate::ending::CallEnding;
 use crate::handle::Handle;
 use crate::orchestrator_making::{embedded, nodes_of};
 use csi_controller::ControllerRecord;
@@ -19,20 +19,20 @@ use csi_types::NodeId;
 use std::alloc::Global;
 
 /// Raises the session in a plugin.
-pub(crate) fn raise(embedded: &mut Embedded, session: u64) -> Ending
+pub(crate) fn raise(embedded: &mut Embedded, session: u64) -> CallEnding
     ensures { RaisesOne session embedded.old embedded.new result }
 {
     if embedded.is_orchestrator() {
-        return Ending::OtherKind;
+        return CallEnding::OtherKind;
     }
     match embedded.raise(session) {
-        Ok(()) => Ending::Done,
-        Err(_) => Ending::NoMemory,
+        Ok(()) => CallEnding::Done,
+        Err(_) => CallEnding::NoMemory,
     }
 }
 
 // The record of the controller that the handle has.
-fn controller_record(alloc: Global, handle: &mut Handle) -> Result<ControllerRecord, Ending>
+fn controller_record(alloc: Global, handle: &mut Handle) -> Result<ControllerRecord, CallEnding>
     ensures kept { IfOk result (HasRecord IsControllerRecord handle.old.held.embedded) }
     ensures none { IfErr result (HasNoRecord is_controller handle.old.held.embedded) }
     ensures same { handle.new.held.embedded ≡ handle.old.held.embedded }
@@ -43,12 +43,12 @@ fn controller_record(alloc: Global, handle: &mut Handle) -> Result<ControllerRec
             *handle = Handle::of(embedded);
             kept
         }
-        None => Err(Ending::Empty),
+        None => Err(CallEnding::Empty),
     }
 }
 
 // The record of the node that the handle has.
-fn node_record(alloc: Global, handle: &mut Handle) -> Result<NodeRecord, Ending>
+fn node_record(alloc: Global, handle: &mut Handle) -> Result<NodeRecord, CallEnding>
     ensures kept { IfOk result (HasRecord IsNodeRecord handle.old.held.embedded) }
     ensures none { IfErr result (HasNoRecord is_node handle.old.held.embedded) }
     ensures same { handle.new.held.embedded ≡ handle.old.held.embedded }
@@ -59,12 +59,12 @@ fn node_record(alloc: Global, handle: &mut Handle) -> Result<NodeRecord, Ending>
             *handle = Handle::of(embedded);
             kept
         }
-        None => Err(Ending::Empty),
+        None => Err(CallEnding::Empty),
     }
 }
 
 // The records of the nodes that the handles have.
-fn node_records(alloc: Global, nodes: &mut [Handle]) -> Result<Vec<NodeRecord>, Ending>
+fn node_records(alloc: Global, nodes: &mut [Handle]) -> Result<Vec<NodeRecord>, CallEnding>
     ensures kept { IfOk result (λ given. HaveRecords (had_by nodes.old) given.items) }
     ensures none { IfErr result (HaveNoRecords (had_by nodes.old)) }
     ensures same { had_by nodes.new ≡ had_by nodes.old }
@@ -74,7 +74,7 @@ fn node_records(alloc: Global, nodes: &mut [Handle]) -> Result<Vec<NodeRecord>, 
         let kept = node_record(alloc, &mut nodes[index])?;
         match given.push(kept) {
             Ok(()) => {}
-            Err(_) => return Err(Ending::NoMemory),
+            Err(_) => return Err(CallEnding::NoMemory),
         }
     }
     Ok(given)
@@ -87,7 +87,7 @@ pub(crate) fn session_above(
     controller: &mut Handle,
     nodes: &mut [Handle],
     session: &mut u64,
-) -> Ending
+) -> CallEnding
     ensures told { TellsSession known controller.old.held.embedded (had_by nodes.old) session.new result }
     ensures controller { controller.new.held.embedded ≡ controller.old.held.embedded }
     ensures nodes { had_by nodes.new ≡ had_by nodes.old }
@@ -103,32 +103,32 @@ pub(crate) fn session_above(
     match recovery_session(known, &kept, &given) {
         Some(above) => {
             *session = above;
-            Ending::Done
+            CallEnding::Done
         }
-        None => Ending::Refused,
+        None => CallEnding::Refused,
     }
 }
 
 // How a call ends for which nothing was recovered, and the place that it tells.
-fn refuse(fault: RecoveryFault, place: &mut u64) -> Ending
+fn refuse(fault: RecoveryFault, place: &mut u64) -> CallEnding
     ensures { EndsUnrecovered fault place.new result }
 {
     match fault {
         RecoveryFault::SameNode(at) => {
             *place = at;
-            Ending::SameNode
+            CallEnding::SameNode
         }
-        RecoveryFault::NotLater => Ending::NotLater,
+        RecoveryFault::NotLater => CallEnding::NotLater,
         RecoveryFault::Disagrees(at) => {
             *place = at;
-            Ending::Disagrees
+            CallEnding::Disagrees
         }
-        RecoveryFault::BadNodes => Ending::BadName,
+        RecoveryFault::BadNodes => CallEnding::BadName,
         RecoveryFault::BadRow(at) => {
             *place = at;
-            Ending::BadRow
+            CallEnding::BadRow
         }
-        RecoveryFault::NoMemory => Ending::NoMemory,
+        RecoveryFault::NoMemory => CallEnding::NoMemory,
     }
 }
 
@@ -137,18 +137,18 @@ fn opened_new(
     alloc: Global,
     kept: OrchestratorRecord,
     nodes: Vec<NodeId>,
-) -> Result<Embedded, Ending>
+) -> Result<Embedded, CallEnding>
     ensures made { IfOk result (IsOpenedNew kept nodes.items) }
     ensures refused { IfErr result (IsNotOpenedNew kept nodes.items) }
 {
     let service = match OrchestratorService::from_new_record(alloc, kept, nodes) {
         Ok(service) => service,
-        Err(OrchestratorUnopened::BadNodes) => return Err(Ending::BadName),
-        Err(_) => return Err(Ending::Refused),
+        Err(OrchestratorUnopened::BadNodes) => return Err(CallEnding::BadName),
+        Err(_) => return Err(CallEnding::Refused),
     };
     match embedded(alloc, service) {
         Ok(made) => Ok(made),
-        Err(_) => Err(Ending::NoMemory),
+        Err(_) => Err(CallEnding::NoMemory),
     }
 }
 
@@ -161,7 +161,7 @@ fn of_records(
     controller: &ControllerRecord,
     given: &[NodeRecord],
     place: &mut u64,
-) -> Result<Embedded, Ending>
+) -> Result<Embedded, CallEnding>
     requires { again.items ≡ nodes.items }
     ensures made { IfOk result (IsMadeOf nodes.items session controller.now given.now) }
     ensures refused { IfErr result (IsUnmadeOf nodes.items session controller.now given.now place.new) }
@@ -181,7 +181,7 @@ pub(crate) fn recovered_orchestrator(
     controller: &mut Handle,
     nodes: &mut [Handle],
     place: &mut u64,
-) -> Result<(Embedded, Ending), Ending>
+) -> Result<(Embedded, CallEnding), CallEnding>
     ensures made { IfOk result (λ made. IsRecovered config.now session controller.old.held.embedded (had_by nodes.old) made.0 × EndsDone made.1) }
     ensures refused { IfErr result (IsNotRecovered config.now session controller.old.held.embedded (had_by nodes.old) place.new) }
     ensures controller { controller.new.held.embedded ≡ controller.old.held.embedded }
@@ -192,7 +192,7 @@ pub(crate) fn recovered_orchestrator(
     let kept = controller_record(alloc, controller)?;
     let given = node_records(alloc, nodes)?;
     match of_records(alloc, listed, again, session, &kept, &given, place) {
-        Ok(made) => Ok((made, Ending::Done)),
+        Ok(made) => Ok((made, CallEnding::Done)),
         Err(ending) => Err(ending),
     }
 }

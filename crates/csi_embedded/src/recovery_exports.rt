@@ -5,7 +5,7 @@ ghost use Rattle.csi_embedded.specs.Public.Making.{Makes, EndsDone};
 ghost use Rattle.csi_embedded.specs.Public.Raising.{HasRaised};
 ghost use Rattle.csi_embedded.specs.Public.Recovering.{had_by, HasSession, IsRecovered, IsNotRecovered};
 
-use crate::ending::Ending;
+use crate::ending::CallEnding;
 use crate::exports::put;
 use crate::handle::Handle;
 use crate::recovering::{raise, recovered_orchestrator, session_above};
@@ -24,7 +24,7 @@ pub extern "C" fn tufayon_raise(alloc: Global, plugin: &mut Handle, session: u64
             *plugin = Handle::of(embedded);
             ending.number()
         }
-        None => Ending::Empty.number(),
+        None => CallEnding::Empty.number(),
     }
 }
 
@@ -65,7 +65,7 @@ pub extern "C" fn tufayon_orchestrator_recovered(
     ensures nodes { had_by nodes.new ≡ had_by nodes.old }
 {
     if orchestrator.is_full() {
-        return Ending::Full.number();
+        return CallEnding::Full.number();
     }
     let made = recovered_orchestrator(alloc, config, session, controller, nodes, place);
     put(alloc, orchestrator, made)

@@ -4,7 +4,7 @@ ghost use Rattle.csi_frames.specs.Public.Spelling.{Spells};
 ghost use Rattle.csi_embedded.specs.Public.Asking.{GivesFrame, EndsRefused};
 
 use crate::copying::copy;
-use crate::ending::Ending;
+use crate::ending::CallEnding;
 use crate::limits::frame_law;
 use csi_frames::encode;
 use csi_orchestrator::OrchFault;
@@ -35,14 +35,14 @@ pub(crate) fn give(sent: &Frame, bytes: Vec<u8>, frame: &mut [u8], written: &mut
 }
 
 /// How a call ends that the orchestrator refused, and the refusal's number. It takes no memory.
-pub(crate) fn refuse(why: OrchFault, fault: &mut u32) -> Ending
+pub(crate) fn refuse(why: OrchFault, fault: &mut u32) -> CallEnding
     ensures { EndsRefused why fault.new result }
 {
     match why {
-        OrchFault::NoMemory => Ending::NoMemory,
+        OrchFault::NoMemory => CallEnding::NoMemory,
         why => {
             *fault = why.number() as u32;
-            Ending::Refused
+            CallEnding::Refused
         }
     }
 }

@@ -2,7 +2,7 @@
 ghost use Rattle.csi_embedded.specs.Public.Making.{Makes, EndsDone};
 ghost use Rattle.csi_embedded.specs.Public.OrchestratorMaking.{IsOpenedOrchestrator, IsNotOpened};
 
-use crate::ending::Ending;
+use crate::ending::CallEnding;
 use crate::exports::put;
 use crate::handle::Handle;
 use crate::orchestrator_making::open_orchestrator;
@@ -23,7 +23,7 @@ pub extern "C" fn tufayon_orchestrator_open(
         orchestrator.old.held.embedded orchestrator.new.held.embedded result }
 {
     if orchestrator.is_full() {
-        return Ending::Full.number();
+        return CallEnding::Full.number();
     }
     put(
         alloc,

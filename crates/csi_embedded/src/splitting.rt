@@ -4,8 +4,8 @@ ghost use Rattle.csi_stores.specs.Public.Content.{all_changed};
 ghost use Rattle.csi_embedded.specs.Private.Calls.{AnswersFirst};
 ghost use Rattle.csi_embedded.specs.Public.Plugins.{plugin_parts, plugin_changes, is_orchestrator, IsAsItWas};
 
-use crate::ending::Ending;
-use crate::plugin::Plugin;
+use crate::ending::CallEnding;
+use crate::plugin::HeldPlugin;
 use csi_frames::Splitter;
 use csi_types::NoMemory;
 use std::alloc::Global;
@@ -38,9 +38,9 @@ pub(crate) fn used_again(alloc: Global, splitter: Splitter, left: usize) -> Spli
 /// Answers the frame that the splitter's bytes begin with, and appends the bytes of its reply, if it has one.
 pub(crate) fn answer_next(
     splitter: &mut Splitter,
-    plugin: &mut Plugin,
+    plugin: &mut HeldPlugin,
     reply: &mut Vec<u8>,
-) -> Result<(), Ending>
+) -> Result<(), CallEnding>
     requires clear { splitter.old.fault ≡ None }
     requires kind { is_orchestrator plugin.old ≡ false }
     ensures answered { AnswersFirst plugin.old splitter.old.kept plugin.new splitter.new.kept reply.old.items reply.new.items result }
@@ -54,7 +54,7 @@ pub(crate) fn answer_next(
             plugin.answer_into(&frame, reply)?;
             Ok(())
         }
-        Ok(None) => Err(Ending::Short),
-        Err(_fault) => Err(Ending::BadFrame),
+        Ok(None) => Err(CallEnding::Short),
+        Err(_fault) => Err(CallEnding::BadFrame),
     }
 }

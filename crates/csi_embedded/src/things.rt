@@ -3,13 +3,13 @@ ghost use Rattle.std.specs.Prelude.{IfOk, IfErr};
 ghost use Rattle.csi_embedded.specs.Public.Asking.{HasNone};
 ghost use Rattle.csi_embedded.specs.Public.Knowing.{AsksExists, AsksAttached, AsksStaged, AsksPublished};
 
-use crate::ending::Ending;
+use crate::ending::CallEnding;
 use crate::texts::{id_of, name_of, target_of};
 use csi_orchestrator::Thing;
 use std::alloc::Global;
 
 /// That the volume of a name is there.
-pub(crate) fn exists_of(alloc: Global, name: &[u8]) -> Result<Thing, Ending>
+pub(crate) fn exists_of(alloc: Global, name: &[u8]) -> Result<Thing, CallEnding>
     ensures asked { IfOk result (AsksExists name.now) }
     ensures none { IfErr result (HasNone (AsksExists name.now)) }
 {
@@ -20,7 +20,7 @@ pub(crate) fn exists_of(alloc: Global, name: &[u8]) -> Result<Thing, Ending>
 }
 
 /// That it is attached to a node.
-pub(crate) fn attached_of(alloc: Global, name: &[u8], node: &[u8]) -> Result<Thing, Ending>
+pub(crate) fn attached_of(alloc: Global, name: &[u8], node: &[u8]) -> Result<Thing, CallEnding>
     ensures asked { IfOk result (AsksAttached name.now node.now) }
     ensures none { IfErr result (HasNone (AsksAttached name.now node.now)) }
 {
@@ -35,7 +35,7 @@ pub(crate) fn attached_of(alloc: Global, name: &[u8], node: &[u8]) -> Result<Thi
 }
 
 /// That it is staged there.
-pub(crate) fn staged_of(alloc: Global, name: &[u8], node: &[u8]) -> Result<Thing, Ending>
+pub(crate) fn staged_of(alloc: Global, name: &[u8], node: &[u8]) -> Result<Thing, CallEnding>
     ensures asked { IfOk result (AsksStaged name.now node.now) }
     ensures none { IfErr result (HasNone (AsksStaged name.now node.now)) }
 {
@@ -55,7 +55,7 @@ pub(crate) fn published_of(
     name: &[u8],
     node: &[u8],
     target: &[u8],
-) -> Result<Thing, Ending>
+) -> Result<Thing, CallEnding>
     ensures asked { IfOk result (AsksPublished name.now node.now target.now) }
     ensures none { IfErr result (HasNone (AsksPublished name.now node.now target.now)) }
 {

@@ -9,7 +9,7 @@ use Rattle.csi_types.specs.Public.Text.{IsText}
 use Rattle.csi_types.specs.Public.Limits.{IsWord}
 use Rattle.csi_frames.specs.declared.fault.FaultKind.{FaultKind}
 use Rattle.csi_frames.specs.declared.fault.FaultKind.TheVariants.{LengthDiffers, BadId, BadText}
-use Rattle.csi_frames.specs.declared.fields.Stop.{Stop}
+use Rattle.csi_frames.specs.declared.fields.FieldStop.{FieldStop}
 use Rattle.csi_frames.specs.Public.Grammar.{Grammar, Byte, Word, Text, Leads, nothing, byte, word, text}
 use Rattle.csi_frames.specs.Public.Reading.{stopped_at_field, byte_at, word_at, text_at}
 use Rattle.csi_frames.specs.Public.Bytes.{AreBytes}
@@ -32,7 +32,7 @@ byte-takes allowed fault next b bytes true x is_so e =
 byte-takes allowed fault next b bytes false x is_so e = absurd cc
 
 -- where the reader stops at a byte, the grammar refuses it; by whether it is allowed
-byte-stops : (allowed : ℕ → Bool) (fault : FaultKind) (next : ℕ → Grammar) (b : ℕ) (bytes : List ℕ) (t : Bool) (stop : Stop) → allowed b ≡ t → cond t (done b bytes) (stopped_at_field fault (b ∷ bytes)) ≡ Err stop
+byte-stops : (allowed : ℕ → Bool) (fault : FaultKind) (next : ℕ → Grammar) (b : ℕ) (bytes : List ℕ) (t : Bool) (stop : FieldStop) → allowed b ≡ t → cond t (done b bytes) (stopped_at_field fault (b ∷ bytes)) ≡ Err stop
     → Refuses (Byte allowed fault next) (b ∷ bytes) stop
 byte-stops allowed fault next b bytes true stop is_so e = absurd cc
 byte-stops allowed fault next b bytes false stop is_so e = refuses_here {A = ℕ × List ℕ} (Byte allowed fault next) (b ∷ bytes) fault stop (rw is_so refl) e
@@ -44,7 +44,7 @@ byte_at-takes allowed fault next [] x e = absurd cc
 byte_at-takes allowed fault next (b ∷ bytes) x e = byte-takes allowed fault next b bytes (allowed b) x refl e
 
 -- where the reader of a byte stops, the grammar refuses with the same fault
-byte_at-stops : (allowed : ℕ → Bool) (fault : FaultKind) (next : ℕ → Grammar) (bytes : List ℕ) (stop : Stop) → byte_at allowed fault bytes ≡ Err stop → Refuses (Byte allowed fault next) bytes stop
+byte_at-stops : (allowed : ℕ → Bool) (fault : FaultKind) (next : ℕ → Grammar) (bytes : List ℕ) (stop : FieldStop) → byte_at allowed fault bytes ≡ Err stop → Refuses (Byte allowed fault next) bytes stop
 unfolding byte_at
 byte_at-stops allowed fault next [] stop e = refuses_here {A = ℕ × List ℕ} (Byte allowed fault next) [] LengthDiffers stop refl e
 byte_at-stops allowed fault next (b ∷ bytes) stop e = byte-stops allowed fault next b bytes (allowed b) stop refl e
@@ -91,7 +91,7 @@ word-takes allowed next bytes false true x fits is_short is_so e =
     })
 
 -- where the reader of a number stops, the grammar refuses; by how many bytes there are and whether the number is allowed
-word-stops : (allowed : ℕ → Bool) (next : ℕ → Grammar) (bytes : List ℕ) (short t : Bool) (stop : Stop) → ltb (length bytes) 8 ≡ short → allowed (big_number 8 bytes) ≡ t
+word-stops : (allowed : ℕ → Bool) (next : ℕ → Grammar) (bytes : List ℕ) (short t : Bool) (stop : FieldStop) → ltb (length bytes) 8 ≡ short → allowed (big_number 8 bytes) ≡ t
     → cond short (stopped_at_field LengthDiffers bytes) (cond t (done (big_number 8 bytes) (drop 8 bytes)) (stopped_at_field BadId bytes)) ≡ Err stop → Refuses (Word allowed next) bytes stop
 word-stops allowed next bytes true t stop is_short is_so e = refuses_here {A = ℕ × List ℕ} (Word allowed next) bytes LengthDiffers stop (rw is_short refl) e
 word-stops allowed next bytes false true stop is_short is_so e = absurd cc
@@ -103,7 +103,7 @@ unfolding word_at
 word_at-takes allowed next bytes x fits e = word-takes allowed next bytes (ltb (length bytes) 8) (allowed (big_number 8 bytes)) x fits refl refl e
 
 -- where the reader of a number stops, the grammar refuses with the same fault
-word_at-stops : (allowed : ℕ → Bool) (next : ℕ → Grammar) (bytes : List ℕ) (stop : Stop) → word_at allowed bytes ≡ Err stop → Refuses (Word allowed next) bytes stop
+word_at-stops : (allowed : ℕ → Bool) (next : ℕ → Grammar) (bytes : List ℕ) (stop : FieldStop) → word_at allowed bytes ≡ Err stop → Refuses (Word allowed next) bytes stop
 unfolding word_at
 word_at-stops allowed next bytes stop e = word-stops allowed next bytes (ltb (length bytes) 8) (allowed (big_number 8 bytes)) stop refl refl e
 
@@ -167,7 +167,7 @@ text-takes least most next n bytes false false true x is_out is_short is_utf e =
     })
 
 -- where the reader of a text stops, the grammar refuses; by the three tests of the reader
-text-stops : (least most : ℕ) (next : List ℕ → Grammar) (n : ℕ) (bytes : List ℕ) (out short utf8 : Bool) (stop : Stop)
+text-stops : (least most : ℕ) (next : List ℕ → Grammar) (n : ℕ) (bytes : List ℕ) (out short utf8 : Bool) (stop : FieldStop)
     → not (leb least n && leb n most) ≡ out → ltb (length bytes) n ≡ short → is_utf8 (take n bytes) ≡ utf8
     → cond out (stopped_at_field BadText (n ∷ bytes)) (cond short (stopped_at_field LengthDiffers (n ∷ bytes)) (cond utf8 (done (take n bytes) (drop n bytes)) (stopped_at_field BadText (n ∷ bytes)))) ≡ Err stop
     → Refuses (Text least most next) (n ∷ bytes) stop
@@ -183,7 +183,7 @@ text_at-takes least most next [] x e = absurd cc
 text_at-takes least most next (n ∷ bytes) x e = text-takes least most next n bytes _ _ _ x refl refl refl e
 
 -- where the reader of a text stops, the grammar refuses with the same fault
-text_at-stops : (least most : ℕ) (next : List ℕ → Grammar) (bytes : List ℕ) (stop : Stop) → text_at least most bytes ≡ Err stop → Refuses (Text least most next) bytes stop
+text_at-stops : (least most : ℕ) (next : List ℕ → Grammar) (bytes : List ℕ) (stop : FieldStop) → text_at least most bytes ≡ Err stop → Refuses (Text least most next) bytes stop
 unfolding text_at
 text_at-stops least most next [] stop e = refuses_here {A = List ℕ × List ℕ} (Text least most next) [] LengthDiffers stop refl e
 text_at-stops least most next (n ∷ bytes) stop e = text-stops least most next n bytes _ _ _ stop refl refl refl e

@@ -9,7 +9,7 @@ use Rattle.csi_types.specs.Public.Limits.{IsFrame}
 use Rattle.csi_frames.specs.declared.fault.FaultKind.{FaultKind}
 use Rattle.csi_frames.specs.declared.fault.FaultKind.TheVariants.{Short, TooLong}
 use Rattle.csi_frames.specs.declared.fault.FrameFault.{FrameFault}
-use Rattle.csi_frames.specs.declared.fields.Stop.{Stop}
+use Rattle.csi_frames.specs.declared.fields.FieldStop.{FieldStop}
 use Rattle.csi_frames.specs.Public.Spelling.{frame_body, spelling, BeginsWith}
 use Rattle.csi_frames.specs.Public.Grammar.{body_grammar}
 use Rattle.csi_frames.specs.Public.Fault.{IsStuck, IsFaulty, length_of, no_length, too_long, short, in_body}
@@ -67,7 +67,7 @@ begins bytes frame fits h e =
     }
 
 -- bytes whose body isn't read as a frame have the fault at which reading stopped, at its place in them
-faulty : (bytes : List ℕ) (stop : Stop) → AreBytes bytes → HasBody bytes → whole_frame (frame_at (body_in bytes)) ≡ Err stop → IsFaulty bytes stop.kind (4 + length_of bytes - stop.left)
+faulty : (bytes : List ℕ) (stop : FieldStop) → AreBytes bytes → HasBody bytes → whole_frame (frame_at (body_in bytes)) ≡ Err stop → IsFaulty bytes stop.kind (4 + length_of bytes - stop.left)
 faulty bytes stop fits h e =
     let s = all_of-err (body_in bytes) stop (AreBytes-body_in bytes fits) e in
     let place : 4 + (length (body_in bytes) - stop.left) ≡ 4 + length_of bytes - stop.left = omega (arith, s.within, length-body_in bytes h) in
@@ -81,7 +81,7 @@ Answers bytes (Ok read) = BeginsWith bytes read.0 read.1
 Answers bytes (Err f) = IsFaulty bytes f.kind f.place
 
 -- what is answered of bytes that have a body is so of them
-answers-body : (bytes : List ℕ) → AreBytes bytes → HasBody bytes → (r : Result Frame Stop) → whole_frame (frame_at (body_in bytes)) ≡ r → Answers bytes (placed_frame (4 + length_of bytes) r)
+answers-body : (bytes : List ℕ) → AreBytes bytes → HasBody bytes → (r : Result Frame FieldStop) → whole_frame (frame_at (body_in bytes)) ≡ r → Answers bytes (placed_frame (4 + length_of bytes) r)
 answers-body bytes fits h (Ok frame) e = begins bytes frame fits h e
 answers-body bytes fits h (Err stop) e = faulty bytes stop fits h e
 

@@ -7,7 +7,7 @@ use Rattle.std.proofs.lemmas.Str.{IsUtf8-from_is_utf8}
 use Rattle.byteorder.specs.Endian.{big_number}
 use Rattle.csi_frames.specs.declared.fault.FaultKind.{FaultKind}
 use Rattle.csi_frames.specs.declared.fault.FaultKind.TheVariants.{LengthDiffers, BadId, BadText}
-use Rattle.csi_frames.specs.declared.fields.Stop.{Stop}
+use Rattle.csi_frames.specs.declared.fields.FieldStop.{FieldStop}
 use Rattle.csi_frames.specs.Public.Grammar.{Grammar, End, Byte, Word, Text, Leads, nothing, byte, word, text, refusal}
 use Rattle.csi_frames.specs.Public.Fault.{IsStuck}
 use Rattle.csi_frames.specs.Public.Reading.{stopped_at_field, byte_at, word_at, text_at}
@@ -16,12 +16,12 @@ use Rattle.csi_frames.proofs.FieldReaders.{byte_agrees, text_agrees}
 use Rattle.csi_frames.proofs.Readers.{done}
 
 -- a field that was read, and then how what comes after it fares
-abbrev pub judged : {A : Type 0} → Result (A × List ℕ) Stop → (A → List ℕ → Result (Unit {0}) Stop) → Result (Unit {0}) Stop
+abbrev pub judged : {A : Type 0} → Result (A × List ℕ) FieldStop → (A → List ℕ → Result (Unit {0}) FieldStop) → Result (Unit {0}) FieldStop
 judged (Ok x) next = next x.0 x.1
 judged (Err stop) next = Err stop
 
 -- how the bytes fare, all of them
-pub judge : Grammar → List ℕ → Result (Unit {0}) Stop
+pub judge : Grammar → List ℕ → Result (Unit {0}) FieldStop
 judge End [] = Ok tt
 judge End (b ∷ bytes) = stopped_at_field LengthDiffers (b ∷ bytes)
 judge (Byte allowed fault next) bytes = judged (byte_at allowed fault bytes) (λ b rest. judge (next b) rest)
@@ -42,15 +42,15 @@ pub judge-Leads : (g : Grammar) (front : List ℕ) (h : Grammar) (bytes : List �
 unfolding judge
 judge-Leads g front h bytes (nothing _) = refl
 judge-Leads g front h bytes (byte allowed fault next b more _ is_allowed rest) =
-    ap (λ (r : Result (ℕ × List ℕ) Stop). judged r (λ n rest. judge (next n) rest)) ((byte_agrees allowed fault next).again b (b ∷ []) (more ++ bytes) (record { is_allowed = is_allowed; one = refl }))
+    ap (λ (r : Result (ℕ × List ℕ) FieldStop). judged r (λ n rest. judge (next n) rest)) ((byte_agrees allowed fault next).again b (b ∷ []) (more ++ bytes) (record { is_allowed = is_allowed; one = refl }))
     ∙ judge-Leads (next b) more h bytes rest
 judge-Leads g front h bytes (word allowed next eight more _ long is_allowed rest) =
     ap (λ (t : List ℕ). judged (word_at allowed t) (λ n rest. judge (next n) rest)) (append_assoc eight more bytes)
-    ∙ ap (λ (r : Result (ℕ × List ℕ) Stop). judged r (λ n rest. judge (next n) rest)) (word_at-led allowed eight (more ++ bytes) long is_allowed)
+    ∙ ap (λ (r : Result (ℕ × List ℕ) FieldStop). judged r (λ n rest. judge (next n) rest)) (word_at-led allowed eight (more ++ bytes) long is_allowed)
     ∙ judge-Leads (next (big_number 8 eight)) more h bytes rest
 judge-Leads g front h bytes (text least most next value more _ low high utf8 rest) =
     ap (λ (t : List ℕ). judged (text_at least most (length value ∷ t)) (λ t rest. judge (next t) rest)) (append_assoc value more bytes)
-    ∙ ap (λ (r : Result (List ℕ × List ℕ) Stop). judged r (λ t rest. judge (next t) rest))
+    ∙ ap (λ (r : Result (List ℕ × List ℕ) FieldStop). judged r (λ t rest. judge (next t) rest))
     ((text_agrees least most next).again value (length value ∷ value) (more ++ bytes) (record { fits = record { utf8 = IsUtf8-from_is_utf8 value utf8; no_shorter = leb-true _ _ low; no_longer = leb-true _ _ high }; counted = refl }))
     ∙ judge-Leads (next value) more h bytes rest
 
@@ -88,12 +88,12 @@ judge-refusal End [] kind e = absurd cc
 judge-refusal End (b ∷ bytes) kind e = kind_is kind LengthDiffers (b ∷ bytes) e
 judge-refusal (Byte allowed fault next) [] kind e = kind_is kind LengthDiffers [] e
 judge-refusal (Byte allowed fault next) (b ∷ bytes) kind e =
-    ap (λ (r : Result (ℕ × List ℕ) Stop). judged r (λ n rest. judge (next n) rest)) (refused-byte allowed fault next b bytes kind (allowed b) refl e)
+    ap (λ (r : Result (ℕ × List ℕ) FieldStop). judged r (λ n rest. judge (next n) rest)) (refused-byte allowed fault next b bytes kind (allowed b) refl e)
 judge-refusal (Word allowed next) bytes kind e =
-    ap (λ (r : Result (ℕ × List ℕ) Stop). judged r (λ n rest. judge (next n) rest)) (refused-word (big_number 8 bytes) (drop 8 bytes) bytes kind (ltb (length bytes) 8) (allowed (big_number 8 bytes)) e)
+    ap (λ (r : Result (ℕ × List ℕ) FieldStop). judged r (λ n rest. judge (next n) rest)) (refused-word (big_number 8 bytes) (drop 8 bytes) bytes kind (ltb (length bytes) 8) (allowed (big_number 8 bytes)) e)
 judge-refusal (Text least most next) [] kind e = kind_is kind LengthDiffers [] e
 judge-refusal (Text least most next) (n ∷ bytes) kind e =
-    ap (λ (r : Result (List ℕ × List ℕ) Stop). judged r (λ t rest. judge (next t) rest)) (refused-text (take n bytes) (drop n bytes) (n ∷ bytes) kind (not (leb least n && leb n most)) (ltb (length bytes) n) (is_utf8 (take n bytes)) e)
+    ap (λ (r : Result (List ℕ × List ℕ) FieldStop). judged r (λ t rest. judge (next t) rest)) (refused-text (take n bytes) (drop n bytes) (n ∷ bytes) kind (not (leb least n && leb n most)) (ltb (length bytes) n) (is_utf8 (take n bytes)) e)
 
 -- ---- so each list of bytes has one verdict
 

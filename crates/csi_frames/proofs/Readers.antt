@@ -4,7 +4,7 @@ use Rattle.std.proofs.Common.{◌≡◌, ℕ, Bool, true, false, cond, List, [],
 use Rattle.std.specs.Prelude.{MatchBool}
 use Rattle.byteorder.specs.Endian.{big_number}
 use Rattle.csi_frames.specs.declared.fault.FaultKind.{FaultKind}
-use Rattle.csi_frames.specs.declared.fields.Stop.{Stop}
+use Rattle.csi_frames.specs.declared.fields.FieldStop.{FieldStop}
 use Rattle.csi_frames.specs.Public.Grammar.{Grammar, Word, Text, Leads, nothing, byte, word, text, refusal}
 use Rattle.csi_frames.specs.Public.Reading.{Reader, give, stopped_at_field}
 use Rattle.csi_frames.specs.Public.Reading.{go_on, ◌>>=◌}
@@ -33,7 +33,7 @@ pub record Took {A : Type 0} (Says : A → List ℕ → Type 0) (g : Grammar) (n
   pub leads : Leads g front (next x.0)
 
 -- where it stopped, and that the grammar refuses there
-pub record Refuses (g : Grammar) (bytes : List ℕ) (stop : Stop) : Type 0 where
+pub record Refuses (g : Grammar) (bytes : List ℕ) (stop : FieldStop) : Type 0 where
   pub front : List ℕ
   pub back : List ℕ
   pub next : Grammar
@@ -45,24 +45,24 @@ pub record Refuses (g : Grammar) (bytes : List ℕ) (stop : Stop) : Type 0 where
 -- A reader whose values these bytes spell agrees with a grammar, after which next may come.
 pub record Agrees {A : Type 0} (read : Reader A) (Says : A → List ℕ → Type 0) (g : Grammar) (next : A → Grammar) : Type 0 where
   pub takes : (bytes : List ℕ) → AreBytes bytes → (x : A × List ℕ) → read bytes ≡ Ok x → Took Says g next bytes x
-  pub stops : (bytes : List ℕ) → AreBytes bytes → (stop : Stop) → read bytes ≡ Err stop → Refuses g bytes stop
+  pub stops : (bytes : List ℕ) → AreBytes bytes → (stop : FieldStop) → read bytes ≡ Err stop → Refuses g bytes stop
   pub again : (value : A) (front rest : List ℕ) → Says value front → read (front ++ rest) ≡ Ok (value, rest)
 
 -- ---- one reader after another
 
 -- where going on gave a value, the first reader gave one, and what came after it gave that value
-go_on_ok : {A B : Type 0} (r : Result (A × List ℕ) Stop) (k : A → Reader B) (y : B × List ℕ) → go_on r k ≡ Ok y → (x : A × List ℕ) × (r ≡ Ok x) × (k x.0 x.1 ≡ Ok y)
+go_on_ok : {A B : Type 0} (r : Result (A × List ℕ) FieldStop) (k : A → Reader B) (y : B × List ℕ) → go_on r k ≡ Ok y → (x : A × List ℕ) × (r ≡ Ok x) × (k x.0 x.1 ≡ Ok y)
 go_on_ok (Ok x) k y e = (x, refl, e)
 go_on_ok (Err stop) k y e = absurd cc
 
 -- went on and stopped later
-record Later {A B : Type 0} (r : Result (A × List ℕ) Stop) (k : A → Reader B) (stop : Stop) : Type 0 where
+record Later {A B : Type 0} (r : Result (A × List ℕ) FieldStop) (k : A → Reader B) (stop : FieldStop) : Type 0 where
   read : A × List ℕ
   was : r ≡ Ok read
   stopped : k read.0 read.1 ≡ Err stop
 
 -- where going on stopped, the first reader stopped there, or it gave a value and what came after it stopped
-go_on_err : {A B : Type 0} (r : Result (A × List ℕ) Stop) (k : A → Reader B) (stop : Stop) → go_on r k ≡ Err stop → (r ≡ Err stop) ⊎ Later r k stop
+go_on_err : {A B : Type 0} (r : Result (A × List ℕ) FieldStop) (k : A → Reader B) (stop : FieldStop) → go_on r k ≡ Err stop → (r ≡ Err stop) ⊎ Later r k stop
 go_on_err (Ok x) k stop e = inr (record { read = x; was = refl; stopped = e })
 go_on_err (Err d) k stop e = inl cc
 
@@ -108,7 +108,7 @@ then {A} {B} {r} {k} {First} {Second} {g} {mid} {next} one two = record {
   again = λ value bytes rest s.
       let whole : bytes ++ rest ≡ s.front ++ (s.back ++ rest) = ap (λ (t : List ℕ). t ++ rest) s.parts ∙ append_assoc s.front s.back rest in
       let first : r (s.front ++ (s.back ++ rest)) ≡ Ok (s.before, s.back ++ rest) = one.again s.before s.front (s.back ++ rest) s.first in
-      ap (λ (t : List ℕ). go_on (r t) k) whole ∙ (ap (λ (x : Result (A × List ℕ) Stop). go_on x k) first ∙ (two s.before).again value s.back rest s.second);
+      ap (λ (t : List ℕ). go_on (r t) k) whole ∙ (ap (λ (x : Result (A × List ℕ) FieldStop). go_on x k) first ∙ (two s.before).again value s.back rest s.second);
 }
 
 -- a value with no bytes of its own
@@ -117,7 +117,7 @@ pub record Given {A : Type 0} (made value : A) (bytes : List ℕ) : Type 0 where
   pub none : bytes ≡ []
 
 -- a value was read, and these bytes come after it
-abbrev pub done : {A : Type 0} → A → List ℕ → Result (A × List ℕ) Stop
+abbrev pub done : {A : Type 0} → A → List ℕ → Result (A × List ℕ) FieldStop
 done x bytes = Ok (x, bytes)
 
 -- of two answers that are the same, the values and the bytes behind them are the same
@@ -125,11 +125,11 @@ pub ok_is : {A : Type 0} (x : A) (bytes : List ℕ) (y : A × List ℕ) → done
 ok_is x bytes y e = cc
 
 -- of two stops that are the same, the kind and what is left are the same
-pub err_is : {A : Type 0} (kind : FaultKind) (bytes : List ℕ) (stop : Stop) → stopped_at_field {A = A} kind bytes ≡ Err stop → (record { kind = kind; left = length bytes }) ≡ stop
+pub err_is : {A : Type 0} (kind : FaultKind) (bytes : List ℕ) (stop : FieldStop) → stopped_at_field {A = A} kind bytes ≡ Err stop → (record { kind = kind; left = length bytes }) ≡ stop
 err_is kind bytes stop e = cc
 
 -- a field that isn't there, or isn't allowed
-pub refuses_here : {A : Type 0} (g : Grammar) (bytes : List ℕ) (kind : FaultKind) (stop : Stop) → refusal g bytes ≡ Some kind → stopped_at_field {A = A} kind bytes ≡ Err stop → Refuses g bytes stop
+pub refuses_here : {A : Type 0} (g : Grammar) (bytes : List ℕ) (kind : FaultKind) (stop : FieldStop) → refusal g bytes ≡ Some kind → stopped_at_field {A = A} kind bytes ≡ Err stop → Refuses g bytes stop
 refuses_here {A} g bytes kind stop refused e =
     let same = err_is {A = A} kind bytes stop e in
     record {
@@ -137,9 +137,9 @@ refuses_here {A} g bytes kind stop refused e =
       back = bytes;
       next = g;
       parts = refl;
-      here = ap (λ (s : Stop). s.left) same;
+      here = ap (λ (s : FieldStop). s.left) same;
       leads = nothing g;
-      refused = refused ∙ ap (λ (s : Stop). Some s.kind) same;
+      refused = refused ∙ ap (λ (s : FieldStop). Some s.kind) same;
     }
 
 -- a value that is given without reading agrees with the grammar that follows it

@@ -5,7 +5,7 @@ use Rattle.csi_types.specs.Model.Frame.{Frame}
 use Rattle.csi_types.specs.Public.Limits.{IsFrame}
 use Rattle.csi_frames.specs.declared.fault.FaultKind.{FaultKind}
 use Rattle.csi_frames.specs.declared.fault.FaultKind.TheVariants.{LengthDiffers}
-use Rattle.csi_frames.specs.declared.fields.Stop.{Stop}
+use Rattle.csi_frames.specs.declared.fields.FieldStop.{FieldStop}
 use Rattle.csi_frames.specs.Public.Spelling.{frame_body}
 use Rattle.csi_frames.specs.Public.Grammar.{End, Leads, body_grammar}
 use Rattle.csi_frames.specs.Public.Fault.{IsStuck}
@@ -24,12 +24,12 @@ pub record IsBodyOf (frame : Frame) (body : List ℕ) : Type 0 where
   pub leads : Leads body_grammar body End
 
 -- the body is at fault
-pub record IsStopped (body : List ℕ) (stop : Stop) : Type 0 where
+pub record IsStopped (body : List ℕ) (stop : FieldStop) : Type 0 where
   pub within : stop.left ≤ length body
   pub stuck : IsStuck body_grammar body stop.kind (length body - stop.left)
 
 -- where the reader of a body stopped and the grammar refuses, the body is at fault
-stuck_of : (body : List ℕ) (stop : Stop) → Refuses body_grammar body stop → IsStopped body stop
+stuck_of : (body : List ℕ) (stop : FieldStop) → Refuses body_grammar body stop → IsStopped body stop
 stuck_of body stop r =
     let total : length body ≡ length r.front + length r.back = ap length r.parts ∙ length-append r.front r.back in
     record {
@@ -48,7 +48,7 @@ whole-ok body fits (f, []) frame e all =
 whole-ok body fits (f, b ∷ rest) frame e all = absurd cc
 
 -- bytes that are read as a frame, with something left, are a body at fault
-whole-err : (body : List ℕ) → AreBytes body → (x : Frame × List ℕ) (stop : Stop) → frame_at body ≡ Ok x → whole_frame (Ok x) ≡ Err stop → IsStopped body stop
+whole-err : (body : List ℕ) → AreBytes body → (x : Frame × List ℕ) (stop : FieldStop) → frame_at body ≡ Ok x → whole_frame (Ok x) ≡ Err stop → IsStopped body stop
 whole-err body fits (f, []) stop e all = absurd cc
 whole-err body fits (f, b ∷ rest) stop e all =
     let t = frame_agrees.takes body fits (f, b ∷ rest) e in
@@ -57,12 +57,12 @@ whole-err body fits (f, b ∷ rest) stop e all =
     (record { front = t.front; back = b ∷ rest; next = End; parts = t.parts; here = refl; leads = t.leads; refused = refl }))
 
 -- the same two, whatever reading gave
-judged_ok : (body : List ℕ) → AreBytes body → (r : Result (Frame × List ℕ) Stop) (frame : Frame) → frame_at body ≡ r → whole_frame r ≡ Ok frame → IsBodyOf frame body
+judged_ok : (body : List ℕ) → AreBytes body → (r : Result (Frame × List ℕ) FieldStop) (frame : Frame) → frame_at body ≡ r → whole_frame r ≡ Ok frame → IsBodyOf frame body
 judged_ok body fits (Ok x) frame e all = whole-ok body fits x frame e all
 judged_ok body fits (Err stop) frame e all = absurd cc
 
 -- bytes whose reading ends in a fault, with something left or not, are a body at fault
-judged_err : (body : List ℕ) → AreBytes body → (r : Result (Frame × List ℕ) Stop) (stop : Stop) → frame_at body ≡ r → whole_frame r ≡ Err stop → IsStopped body stop
+judged_err : (body : List ℕ) → AreBytes body → (r : Result (Frame × List ℕ) FieldStop) (stop : FieldStop) → frame_at body ≡ r → whole_frame r ≡ Err stop → IsStopped body stop
 judged_err body fits (Ok x) stop e all = whole-err body fits x stop e all
 judged_err body fits (Err d) stop e all =
     let same : d ≡ stop = cc in
@@ -73,7 +73,7 @@ pub all_of-ok : (body : List ℕ) (frame : Frame) → AreBytes body → whole_fr
 all_of-ok body frame fits e = judged_ok body fits (frame_at body) frame refl e
 
 -- bytes that aren't read as a whole body are a body at fault, of the kind and at the place where reading stopped
-pub all_of-err : (body : List ℕ) (stop : Stop) → AreBytes body → whole_frame (frame_at body) ≡ Err stop → IsStopped body stop
+pub all_of-err : (body : List ℕ) (stop : FieldStop) → AreBytes body → whole_frame (frame_at body) ≡ Err stop → IsStopped body stop
 all_of-err body stop fits e = judged_err body fits (frame_at body) stop refl e
 
 -- the body of a frame whose parts are within their limits is read as that frame, with nothing left
@@ -82,19 +82,19 @@ all_of-spelled frame fits =
     ap (λ (t : List ℕ). whole_frame (frame_at t)) (sym (append-nil (frame_body frame))) ∙ ap whole_frame (frame_agrees.again frame (frame_body frame) [] (record { fits = fits; are = refl }))
 
 -- a stuck body is answered so
-abbrev verdict : Stop → Result (Unit {0}) Stop
+abbrev verdict : FieldStop → Result (Unit {0}) FieldStop
 verdict stop = Err stop
 
 -- two stops that are answered alike are the same
-verdict_is : (a b : Stop) → verdict a ≡ verdict b → a ≡ b
+verdict_is : (a b : FieldStop) → verdict a ≡ verdict b → a ≡ b
 verdict_is a b e = cc
 
 -- bytes aren't judged to be good and to stop
-no_verdict : (j : Result (Unit {0}) Stop) (stop : Stop) → j ≡ Ok tt → j ≡ Err stop → ⊥
+no_verdict : (j : Result (Unit {0}) FieldStop) (stop : FieldStop) → j ≡ Ok tt → j ≡ Err stop → ⊥
 no_verdict j stop good bad = cc
 
 -- where a body is stuck, the answer to reading it is that fault at that place
-stuck-all : (body : List ℕ) → AreBytes body → (kind : FaultKind) (place : ℕ) → IsStuck body_grammar body kind place → (r : Result Frame Stop) → whole_frame (frame_at body) ≡ r
+stuck-all : (body : List ℕ) → AreBytes body → (kind : FaultKind) (place : ℕ) → IsStuck body_grammar body kind place → (r : Result Frame FieldStop) → whole_frame (frame_at body) ≡ r
     → r ≡ Err (record { kind = kind; left = length body - place })
 stuck-all body fits kind place s (Ok frame) e =
     absurd (no_verdict (judge body_grammar body) (record { kind = kind; left = length body - place }) (judge-end body_grammar body (all_of-ok body frame fits e).leads) (judge-IsStuck body_grammar body kind place s).0)

@@ -9,13 +9,13 @@ use crate::body_kind::BodyKind;
 use crate::borrowed::{BodyRef, BorrowedFrame, PartyRef};
 use crate::calls::{call_at, reply_at};
 use crate::fault::{FaultKind, FrameFault};
-use crate::fields::{Fields, Stop};
+use crate::fields::{FieldStop, Fields};
 use crate::version::Version;
 use byteorder::{BigEndian, ByteOrder};
 use csi_types::{NodeId, Number};
 
 #[tactic(auto, unfolding(crate::specs::Public::Reading::byte_at, crate::specs::Public::Reading::version_at))]
-fn version_at(fields: &mut Fields<'_>) -> Result<Version, Stop>
+fn version_at(fields: &mut Fields<'_>) -> Result<Version, FieldStop>
     ensures { Gives (λ version. version) result fields.new (version_at fields.old.bytes.now) }
 {
     let bad = fields.stop(FaultKind::BadVersion);
@@ -24,7 +24,7 @@ fn version_at(fields: &mut Fields<'_>) -> Result<Version, Stop>
 }
 
 #[tactic(auto, unfolding(crate::specs::Public::Reading::byte_at, crate::specs::Public::Reading::kind_at))]
-fn kind_at(fields: &mut Fields<'_>, version: Version) -> Result<BodyKind, Stop>
+fn kind_at(fields: &mut Fields<'_>, version: Version) -> Result<BodyKind, FieldStop>
     ensures { Gives (λ kind. kind) result fields.new (kind_at version fields.old.bytes.now) }
 {
     let bad = fields.stop(FaultKind::BadKind);
@@ -34,7 +34,7 @@ fn kind_at(fields: &mut Fields<'_>, version: Version) -> Result<BodyKind, Stop>
 
 /// The number of a call. It takes no memory.
 #[tactic(auto, unfolding(crate::specs::Public::Reading::number_at))]
-pub fn number_at(fields: &mut Fields<'_>) -> Result<Number, Stop>
+pub fn number_at(fields: &mut Fields<'_>) -> Result<Number, FieldStop>
     ensures { Gives (λ number. number) result fields.new (number_at fields.old.bytes.now) }
 {
     let session = fields.word()?;
@@ -45,7 +45,7 @@ pub fn number_at(fields: &mut Fields<'_>) -> Result<Number, Stop>
 // The party: 0 for the controller's kinds, and 1 and the node's id for a node's.
 #[inline(always)]
 #[tactic(auto, unfolding(crate::specs::Public::Reading::byte_at, crate::specs::Public::Reading::party_at))]
-fn party_at<'a>(fields: &mut Fields<'a>, kind: BodyKind) -> Result<PartyRef<'a>, Stop>
+fn party_at<'a>(fields: &mut Fields<'a>, kind: BodyKind) -> Result<PartyRef<'a>, FieldStop>
     ensures { Gives lent_party result fields.new (party_at kind fields.old.bytes.now) }
 {
     let bad = fields.stop(FaultKind::BadParty);
@@ -67,7 +67,7 @@ fn fields_at<'a>(
     fields: &mut Fields<'a>,
     version: Version,
     kind: BodyKind,
-) -> Result<BodyRef<'a>, Stop>
+) -> Result<BodyRef<'a>, FieldStop>
     ensures { Gives lent_body result fields.new (fields_at version kind fields.old.bytes.now) }
 {
     match kind {
@@ -84,7 +84,7 @@ fn fields_at<'a>(
 
 // The same in the first version, of which nearly all frames are: apart, so that no test of the version is left in it.
 #[inline(always)]
-fn first_fields_at<'a>(fields: &mut Fields<'a>, kind: BodyKind) -> Result<BodyRef<'a>, Stop>
+fn first_fields_at<'a>(fields: &mut Fields<'a>, kind: BodyKind) -> Result<BodyRef<'a>, FieldStop>
     ensures { Gives lent_body result fields.new (fields_at Version.One kind fields.old.bytes.now) }
 {
     fields_at(fields, Version::One, kind)
@@ -96,7 +96,7 @@ fn fields_of_version<'a>(
     fields: &mut Fields<'a>,
     version: Version,
     kind: BodyKind,
-) -> Result<BodyRef<'a>, Stop>
+) -> Result<BodyRef<'a>, FieldStop>
     ensures { Gives lent_body result fields.new (fields_at version kind fields.old.bytes.now) }
 {
     match version {
@@ -107,7 +107,7 @@ fn fields_of_version<'a>(
 
 #[inline(always)]
 #[tactic(auto, unfolding(crate::specs::Public::Reading::frame_at))]
-fn frame_at<'a>(fields: &mut Fields<'a>) -> Result<BorrowedFrame<'a>, Stop>
+fn frame_at<'a>(fields: &mut Fields<'a>) -> Result<BorrowedFrame<'a>, FieldStop>
     ensures { Gives lent_borrowed_frame result fields.new (frame_at fields.old.bytes.now) }
 {
     let version = version_at(fields)?;
@@ -124,7 +124,7 @@ fn frame_at<'a>(fields: &mut Fields<'a>) -> Result<BorrowedFrame<'a>, Stop>
 
 /// The frame whose body these bytes are, all of them.
 #[inline(always)]
-fn whole_body(bytes: &[u8]) -> Result<BorrowedFrame<'_>, Stop>
+fn whole_body(bytes: &[u8]) -> Result<BorrowedFrame<'_>, FieldStop>
     ensures read { GivesWhole lent_borrowed_frame result (whole_frame (frame_at bytes.now)) }
     ensures within { IfErr result (λ stop. stop.left ≤ length bytes.now) }
 {

@@ -11,7 +11,7 @@ ghost use Rattle.csi_frames.specs.Public.Reading.{create_at, call_at, status_at,
 
 use crate::borrowed::ReplyRef;
 use crate::fault::FaultKind;
-use crate::fields::{Fields, Stop};
+use crate::fields::{FieldStop, Fields};
 use crate::version::{Version, is_new_mode};
 use csi_types::{
     AccessRef, CallRef, CapabilitiesRef, CapabilityRef, Detail, FsType, Kind, Mode, Name, NodeId,
@@ -20,7 +20,7 @@ use csi_types::{
 
 #[inline(always)]
 #[tactic(auto, unfolding(crate::specs::Public::Reading::access_at))]
-fn access_at<'a>(fields: &mut Fields<'a>) -> Result<AccessRef<'a>, Stop>
+fn access_at<'a>(fields: &mut Fields<'a>) -> Result<AccessRef<'a>, FieldStop>
     ensures { Gives lent_access result fields.new (access_at fields.old.bytes.now) }
 {
     let byte = fields.byte(1, FaultKind::BadAccess)?;
@@ -33,7 +33,7 @@ fn access_at<'a>(fields: &mut Fields<'a>) -> Result<AccessRef<'a>, Stop>
 
 #[inline(always)]
 #[tactic(auto, unfolding(crate::specs::Public::Reading::byte_at, crate::specs::Public::Reading::mode_at))]
-fn mode_at(fields: &mut Fields<'_>, version: Version, owed: bool) -> Result<Mode, Stop>
+fn mode_at(fields: &mut Fields<'_>, version: Version, owed: bool) -> Result<Mode, FieldStop>
     ensures { Gives (λ mode. mode) result fields.new (mode_at version owed fields.old.bytes.now) }
 {
     let bad = fields.stop(FaultKind::BadMode);
@@ -48,7 +48,7 @@ fn owed_capability_at<'a>(
     fields: &mut Fields<'a>,
     version: Version,
     owed: bool,
-) -> Result<CapabilityRef<'a>, Stop>
+) -> Result<CapabilityRef<'a>, FieldStop>
     ensures { Gives lent_capability result fields.new (owed_capability_at version owed fields.old.bytes.now) }
 {
     let access = access_at(fields)?;
@@ -62,7 +62,7 @@ fn owed_capability_at<'a>(
 pub fn capability_at<'a>(
     fields: &mut Fields<'a>,
     version: Version,
-) -> Result<CapabilityRef<'a>, Stop>
+) -> Result<CapabilityRef<'a>, FieldStop>
     ensures { Gives lent_capability result fields.new (capability_at version fields.old.bytes.now) }
 {
     owed_capability_at(fields, version, false)
@@ -84,7 +84,7 @@ fn is_still_owed(owed: bool, mode: Mode) -> bool
 
 // The id of a volume.
 #[inline(always)]
-fn id_at(fields: &mut Fields<'_>) -> Result<VolumeIdRef, Stop>
+fn id_at(fields: &mut Fields<'_>) -> Result<VolumeIdRef, FieldStop>
     ensures { Gives (λ id. id.number) result fields.new (id_at fields.old.bytes.now) }
 {
     let number = fields.id()?;
@@ -108,7 +108,7 @@ fn capabilities_at<'a>(
     fields: &mut Fields<'a>,
     version: Version,
     count: u8,
-) -> Result<SpelledCapabilities<'a>, Stop>
+) -> Result<SpelledCapabilities<'a>, FieldStop>
     requires { count ≤ 8 }
     ensures { Gives listed result fields.new (capabilities_at version (owes_new_mode version) count fields.old.bytes.now) }
 {
@@ -126,7 +126,7 @@ fn capabilities_at<'a>(
 
 #[inline(always)]
 #[tactic(auto, unfolding(crate::specs::Public::Reading::create_at))]
-fn create_at<'a>(fields: &mut Fields<'a>, version: Version) -> Result<CallRef<'a>, Stop>
+fn create_at<'a>(fields: &mut Fields<'a>, version: Version) -> Result<CallRef<'a>, FieldStop>
     ensures { Gives lent_call result fields.new (create_at version fields.old.bytes.now) }
 {
     let name = fields.text(1, Name::MAX_LEN)?;
@@ -144,7 +144,7 @@ fn create_at<'a>(fields: &mut Fields<'a>, version: Version) -> Result<CallRef<'a
 
 #[inline(always)]
 #[tactic(auto, unfolding(crate::specs::Public::Reading::call_at, crate::specs::Public::Reading::publish_at))]
-fn controller_publish_at<'a>(fields: &mut Fields<'a>, version: Version) -> Result<CallRef<'a>, Stop>
+fn controller_publish_at<'a>(fields: &mut Fields<'a>, version: Version) -> Result<CallRef<'a>, FieldStop>
     ensures { Gives lent_call result fields.new (call_at version Kind.ControllerPublishVolume fields.old.bytes.now) }
 {
     let id = id_at(fields)?;
@@ -161,7 +161,7 @@ fn controller_publish_at<'a>(fields: &mut Fields<'a>, version: Version) -> Resul
 
 #[inline(always)]
 #[tactic(auto, unfolding(crate::specs::Public::Reading::call_at, crate::specs::Public::Reading::publish_at))]
-fn node_publish_at<'a>(fields: &mut Fields<'a>, version: Version) -> Result<CallRef<'a>, Stop>
+fn node_publish_at<'a>(fields: &mut Fields<'a>, version: Version) -> Result<CallRef<'a>, FieldStop>
     ensures { Gives lent_call result fields.new (call_at version Kind.NodePublishVolume fields.old.bytes.now) }
 {
     let id = id_at(fields)?;
@@ -182,7 +182,7 @@ pub(crate) fn call_at<'a>(
     fields: &mut Fields<'a>,
     version: Version,
     kind: Kind,
-) -> Result<CallRef<'a>, Stop>
+) -> Result<CallRef<'a>, FieldStop>
     ensures { Gives lent_call result fields.new (call_at version kind fields.old.bytes.now) }
 {
     match kind {
@@ -217,7 +217,7 @@ pub(crate) fn call_at<'a>(
 
 /// A status. It takes no memory.
 #[tactic(auto, unfolding(crate::specs::Public::Reading::byte_at, crate::specs::Public::Reading::status_at))]
-pub fn status_at(fields: &mut Fields<'_>) -> Result<Status, Stop>
+pub fn status_at(fields: &mut Fields<'_>) -> Result<Status, FieldStop>
     ensures { Gives (λ status. status) result fields.new (status_at fields.old.bytes.now) }
 {
     let bad = fields.stop(FaultKind::BadStatus);
@@ -227,7 +227,7 @@ pub fn status_at(fields: &mut Fields<'_>) -> Result<Status, Stop>
 
 // The id of a reply: 0, for none, but in an `Ok` to CreateVolume, where it isn't 0.
 #[tactic(auto, unfolding(crate::specs::Public::Reading::word_at, crate::specs::Public::Reading::reply_id_at))]
-fn reply_id_at(fields: &mut Fields<'_>, kind: Kind, status: Status) -> Result<u64, Stop>
+fn reply_id_at(fields: &mut Fields<'_>, kind: Kind, status: Status) -> Result<u64, FieldStop>
     ensures { Gives reply_id_of result fields.new (reply_id_at kind status fields.old.bytes.now) }
 {
     let bad = fields.stop(FaultKind::BadId);
@@ -240,7 +240,7 @@ fn reply_id_at(fields: &mut Fields<'_>, kind: Kind, status: Status) -> Result<u6
 }
 
 #[tactic(auto, unfolding(crate::specs::Public::Reading::reply_at))]
-pub(crate) fn reply_at<'a>(fields: &mut Fields<'a>, kind: Kind) -> Result<ReplyRef<'a>, Stop>
+pub(crate) fn reply_at<'a>(fields: &mut Fields<'a>, kind: Kind) -> Result<ReplyRef<'a>, FieldStop>
     ensures { Gives lent_reply result fields.new (reply_at kind fields.old.bytes.now) }
 {
     let status = status_at(fields)?;

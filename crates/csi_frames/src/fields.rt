@@ -8,7 +8,7 @@ use std::str;
 
 /// Where reading stopped: the fault, and how many bytes were left from the field at fault on. This profile's own.
 #[derive(Clone, Copy)]
-pub struct Stop {
+pub struct FieldStop {
     pub kind: FaultKind,
     pub left: usize,
 }
@@ -26,10 +26,10 @@ impl<'a> Fields<'a> {
     ghost use Rattle.csi_frames.specs.Public.Reading.{byte_at, word_at, text_at, id_at, flag_at};
 
     /// The fault of the field that begins here.
-    pub fn stop(&self, kind: FaultKind) -> Stop
+    pub fn stop(&self, kind: FaultKind) -> FieldStop
         ensures { result ≡ record { kind = kind; left = length self.now.bytes.now } }
     {
-        Stop {
+        FieldStop {
             kind,
             left: self.bytes.len(),
         }
@@ -37,7 +37,7 @@ impl<'a> Fields<'a> {
 
     /// A byte, whatever it is.
     #[tactic(auto, unfolding(crate::specs::Public::Reading::byte_at))]
-    pub fn any_byte(&mut self) -> Result<u8, Stop>
+    pub fn any_byte(&mut self) -> Result<u8, FieldStop>
         ensures { Gives (λ n. n) result self.new (byte_at any FaultKind.LengthDiffers self.old.bytes.now) }
     {
         let [byte, rest @ ..] = self.bytes else {
@@ -49,7 +49,7 @@ impl<'a> Fields<'a> {
 
     /// A byte of `least` to `most`.
     #[tactic(auto, unfolding(crate::specs::Public::Reading::byte_at))]
-    pub fn count(&mut self, least: u8, most: u8) -> Result<u8, Stop>
+    pub fn count(&mut self, least: u8, most: u8) -> Result<u8, FieldStop>
         ensures read { Gives (λ n. n) result self.new (byte_at (from_to least most) FaultKind.BadCount self.old.bytes.now) }
         ensures few { IfOk result (λ n. n ≤ most) }
     {
@@ -65,7 +65,7 @@ impl<'a> Fields<'a> {
 
     /// A byte of at most `most`.
     #[tactic(auto, unfolding(crate::specs::Public::Reading::byte_at))]
-    pub fn byte(&mut self, most: u8, fault: FaultKind) -> Result<u8, Stop>
+    pub fn byte(&mut self, most: u8, fault: FaultKind) -> Result<u8, FieldStop>
         ensures { Gives (λ n. n) result self.new (byte_at (at_most most) fault self.old.bytes.now) }
     {
         let [byte, rest @ ..] = self.bytes else {
@@ -80,7 +80,7 @@ impl<'a> Fields<'a> {
 
     /// Any number of 64 bits.
     #[tactic(auto, unfolding(crate::specs::Public::Reading::word_at))]
-    pub fn word(&mut self) -> Result<u64, Stop>
+    pub fn word(&mut self) -> Result<u64, FieldStop>
         ensures { Gives (λ n. n) result self.new (word_at any self.old.bytes.now) }
     {
         if self.bytes.len() < 8 {
@@ -93,7 +93,7 @@ impl<'a> Fields<'a> {
 
     /// An id, which isn't 0.
     #[tactic(auto, unfolding(crate::specs::Public::Reading::word_at, crate::specs::Public::Reading::id_at))]
-    pub fn id(&mut self) -> Result<u64, Stop>
+    pub fn id(&mut self) -> Result<u64, FieldStop>
         ensures read { Gives (λ n. n) result self.new (id_at self.old.bytes.now) }
         ensures from_one { IfOk result (λ n. 0 < n) }
     {
@@ -107,7 +107,7 @@ impl<'a> Fields<'a> {
 
     /// A flag: 0, or 1 for true.
     #[tactic(auto, unfolding(crate::specs::Public::Reading::flag_at))]
-    pub fn flag(&mut self) -> Result<bool, Stop>
+    pub fn flag(&mut self) -> Result<bool, FieldStop>
         ensures { Gives (λ b. b) result self.new (flag_at self.old.bytes.now) }
     {
         let byte = self.byte(1, FaultKind::BadFlag)?;
@@ -116,7 +116,7 @@ impl<'a> Fields<'a> {
 
     /// A text of `least` to `most` bytes.
     #[tactic(auto, unfolding(crate::specs::Public::Reading::text_at))]
-    pub fn text(&mut self, least: usize, most: usize) -> Result<&'a str, Stop>
+    pub fn text(&mut self, least: usize, most: usize) -> Result<&'a str, FieldStop>
         ensures { Gives (λ text. text.now) result self.new (text_at least most self.old.bytes.now) }
     {
         let [count, rest @ ..] = self.bytes else {

@@ -24,7 +24,7 @@ pub use cutting::any_cutting;
 pub use decoding::{decode, one_reading};
 pub use encoding::{encode, encode_reply};
 pub use fault::{FaultKind, FrameFault};
-pub use fields::{Fields, Stop};
+pub use fields::{FieldStop, Fields};
 pub use frame_ref::FrameRef;
 pub use splitter::Splitter;
 pub use version::Version;

@@ -3,7 +3,7 @@ ghost use Rattle.std.specs.Prelude.{◌≡◌, IfOk, IfErr};
 ghost use Rattle.serde_json.specs.View.{view};
 ghost use Rattle.csi_json.specs.Private.Json.{Reads, WantsOnly, HasItems};
 ghost use Rattle.csi_json.specs.Public.Json.{list_of, all_of};
-ghost use Rattle.csi_json.specs.Public.Configs.{node_of, config_of, config_or_fault, text_config};
+ghost use Rattle.csi_json.specs.Public.Configs.{node_slots_of, config_of, config_or_fault, text_config};
 ghost use Rattle.csi_json.specs.Private.Configs.{nodes_in};
 ghost use Rattle.csi_json.specs.Public.Faults.{IsScheduleFault};
 
@@ -16,9 +16,9 @@ use serde_json::Value;
 use std::alloc::Global;
 
 /// A node, and how many volumes it takes at once.
-#[tactic(auto, unfolding(crate::specs::Public::Configs::node_of))]
+#[tactic(auto, unfolding(crate::specs::Public::Configs::node_slots_of))]
 pub fn node(alloc: Global, value: &Value) -> Result<NodeSlots, Flaw>
-    ensures { Reads (λ node. node) result (node_of (view value.now)) }
+    ensures { Reads (λ node. node) result (node_slots_of (view value.now)) }
 {
     let object = sized_object(value, 2)?;
     let id = node_id_at(alloc, object, "id")?;
@@ -28,7 +28,7 @@ pub fn node(alloc: Global, value: &Value) -> Result<NodeSlots, Flaw>
 
 #[tactic(auto, unfolding(crate::specs::Public::Json::all_of))]
 fn nodes(alloc: Global, value: &Value) -> Result<Vec<NodeSlots>, Flaw>
-    ensures read { Reads (λ nodes. nodes.items) result (all_of node_of (view value.now)) }
+    ensures read { Reads (λ nodes. nodes.items) result (all_of node_slots_of (view value.now)) }
     ensures memory { WantsOnly result (HasItems (list_of (view value.now))) }
 {
     let items = list(value)?;

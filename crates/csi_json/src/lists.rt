@@ -4,7 +4,7 @@ ghost use Rattle.serde_json.specs.View.{view};
 ghost use Rattle.csi_json.specs.Private.Json.{Reads, WantsOnly, HasItems};
 ghost use Rattle.csi_json.specs.Public.Json.{read_all, unless_bad, node_id_of};
 ghost use Rattle.csi_json.specs.Public.Capabilities.{capability_of};
-ghost use Rattle.csi_json.specs.Public.Configs.{node_of};
+ghost use Rattle.csi_json.specs.Public.Configs.{node_slots_of};
 ghost use Rattle.csi_json.specs.Public.Happenings.{happening_of};
 ghost use Rattle.csi_json.specs.Public.Faults.{event_fault, IsScheduleFault};
 ghost use Rattle.csi_json.specs.Public.Schedule.{happenings_or_fault};
@@ -41,7 +41,7 @@ pub fn read_capabilities(alloc: Global, items: &[Value]) -> Result<Vec<Capabilit
 
 // Reads a node, and appends it. An `Err` appends nothing.
 fn push_node(alloc: Global, value: &Value, list: &mut Vec<NodeSlots>) -> Result<(), Flaw>
-    ensures { Reads (λ _. list.new.items) result (option_map (λ read. list.old.items ++ read ∷ []) (node_of (view value.now))) }
+    ensures { Reads (λ _. list.new.items) result (option_map (λ read. list.old.items ++ read ∷ []) (node_slots_of (view value.now))) }
 {
     let node = node(alloc, value)?;
     list.push(node)?;
@@ -50,7 +50,7 @@ fn push_node(alloc: Global, value: &Value, list: &mut Vec<NodeSlots>) -> Result<
 
 /// The nodes that the items are read as, where each is.
 pub fn read_nodes(alloc: Global, items: &[Value]) -> Result<Vec<NodeSlots>, Flaw>
-    ensures read { Reads (λ list. list.items) result (unless_bad (read_all node_of 1 (map view items.now))) }
+    ensures read { Reads (λ list. list.items) result (unless_bad (read_all node_slots_of 1 (map view items.now))) }
     ensures memory { WantsOnly result (HasItems (Some (map view items.now))) }
 {
     let mut list = Vec::new(alloc);

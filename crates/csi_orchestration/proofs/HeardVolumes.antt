@@ -32,7 +32,7 @@ use Rattle.csi_orchestrator.specs.Model.History.{History, with_items, Item, Star
 use Rattle.csi_orchestrator.specs.Model.Moves.{Comes, Answer, Hears, Restarted, Moved, sent_as, send_due, undoing_goal, is_number_open, call_replied, hears, heard_refusal, heard, deliver, moves}
 use Rattle.csi_orchestrator.specs.Model.Commands.{next_number}
 use Rattle.csi_orchestrator.specs.Model.Readings.{issued_in, goal_of, open_in, open_call, last_number}
-use Rattle.csi_orchestrator.specs.Model.Shown.{RowShown, OrchestratorParts, Shows, goal_in, row_of, issued_as, open_in_row}
+use Rattle.csi_orchestrator.specs.Model.Shown.{RowShown, OrchestratorParts, Shows, goal_in, row_of, issued_of_open_call, open_in_row}
 use Rattle.csi_orchestrator.specs.Model.Thing.{Issued}
 use Rattle.csi_orchestrator.specs.Model.WellFormed.{AreWellFormed, IsWellFormed}
 use Rattle.csi_orchestrator.specs.Public.Changed.{is_numbered, place_by_call, AreChangedAt, ChangesRowAt}
@@ -241,7 +241,7 @@ numbered-row row issued e = by row.open_call e
     due_is kept None f = absurd (none-some issued f)
     due_is kept (Some due) f = ap (λ (i : Issued). i.number) (same_Some _ issued f)
 
-    by : (o : Option OpenCall) → option_and_then (issued_as row) o ≡ Some issued → is_numbered issued.number o ≡ true
+    by : (o : Option OpenCall) → option_and_then (issued_of_open_call row) o ≡ Some issued → is_numbered issued.number o ≡ true
     by None f = absurd (none-some issued f)
     by (Some kept) f = (same_number-tells kept.number issued.number).1 (due_is kept (call_for row.name (goal_in row) row.id kept.kind) f)
 

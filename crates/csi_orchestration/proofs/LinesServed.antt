@@ -5,8 +5,8 @@ use Rattle.std.specs.Prelude.{slice_get, Option, Some, Result, Ok, Err}
 use Rattle.std.specs.List.{AllByRecursion}
 use Rattle.std.specs.Io.KnownBytes.{IsAtEnd}
 use Rattle.csi_stores.specs.Public.Counting.{HasRisen}
-use Rattle.csi_driver.specs.declared.driver.Stop.{Stop}
-use Rattle.csi_driver.specs.declared.driver.Stop.TheVariants as stop
+use Rattle.csi_driver.specs.declared.driver.DriveStop.{DriveStop}
+use Rattle.csi_driver.specs.declared.driver.DriveStop.TheVariants as stop
 use Rattle.csi_driver.specs.declared.lines.LinesFault.{LinesFault}
 use Rattle.csi_driver.specs.declared.lines.LinesFault.TheVariants as lines_faults
 use Rattle.csi_driver.specs.Public.Driving.{TellsReader}
@@ -24,7 +24,7 @@ use Rattle.csi_driver.proofs.Groups.{IsFresh, came-settles, came-stops, finished
 use Rattle.csi_stores.specs.Public.Part.{StoredPart}
 use Rattle.csi_stores.specs.Public.Stores.{Store, FollowsStore}
 use Rattle.csi_stores.specs.declared.counted.Counted.{Counted}
-use Rattle.csi_orchestration.specs.declared.lines_serving.handling.Answering.{Answering}
+use Rattle.csi_orchestration.specs.declared.lines_serving.handling.ResponderHandler.{ResponderHandler}
 use Rattle.csi_service.specs.Public.Failing.{Stays}
 use Rattle.csi_orchestration.specs.declared.lines_serving.fault.ServedLines.{ServedLines}
 use Rattle.csi_orchestration.specs.declared.lines_serving.fault.LinesServeFault.{LinesServeFault}
@@ -47,7 +47,7 @@ each-second (x ∷ xs) ys each = each-second xs ys each.1
 -- ---- counts of failures
 
 -- the reader failed at Input
-pub reader_failed : (before after : ℕ) (s : Stop (LinesFault AnswerFault)) → TellsReader {A = Unit {0}} before after (Err s) → s ≡ stop.Input → HasRisen before after
+pub reader_failed : (before after : ℕ) (s : DriveStop (LinesFault AnswerFault)) → TellsReader {A = Unit {0}} before after (Err s) → s ≡ stop.Input → HasRisen before after
 reader_failed before after stop.Input told is = told
 reader_failed before after stop.Endless told is = absurd cc
 reader_failed before after (stop.Consumer fault) told is = absurd cc
@@ -59,7 +59,7 @@ handler_stays before after lines false why.NoMemory same = same
 handler_stays before after lines older (why.Keep fault) same = same
 handler_stays before after lines older why.Output same = same
 
-pub reader_stays : (before after lines : ℕ) (older : Bool) (s : Stop (LinesFault AnswerFault)) → TellsReader {A = Unit {0}} before after (Err s)
+pub reader_stays : (before after lines : ℕ) (older : Bool) (s : DriveStop (LinesFault AnswerFault)) → TellsReader {A = Unit {0}} before after (Err s)
     → Stays {A = ServedLines} ReaderStaysAt before after (Err (record { kind = stopped_by older s; lines = lines }))
 reader_stays before after lines older stop.Input told = tt
 reader_stays before after lines older stop.Endless told = told
@@ -69,7 +69,7 @@ reader_stays before after lines older (stop.Consumer (lines_faults.Handler fault
 
 -- where nothing waits all that was read is answered
 pub all_answered : {C K W : Type 0} (answers : C → List ℕ → List ℕ → C → Type 0) (parts_of : C → List StoredPart) (store : K → Store) (contents : W → Option (List ℕ)) (first now : Serving C K W) (read : List ℕ) → IsFresh first.own.waiting
-    → RestsAtLines (handles answers parts_of store contents) (flushes answers parts_of store contents) (λ (answering : Answering C). answering.waiting.items ≡ 0) first read now
+    → RestsAtLines (handles answers parts_of store contents) (flushes answers parts_of store contents) (λ (answering : ResponderHandler C). answering.waiting.items ≡ 0) first read now
     → IsAllAnswered answers parts_of first.own.responder (store first.store) (store now.store) (contents first.out.inner) (contents now.out.inner) read
 all_answered answers parts_of store contents first now read fresh rests =
     let p = finished answers parts_of with_newline always store contents first.own.responder (waiting_of first) rests.0 now.own.responder (waiting_of now) (came_by answers parts_of store contents first now rests.0 fresh rests.3) rests.4 in
@@ -77,8 +77,8 @@ all_answered answers parts_of store contents first now read fresh rests =
 
 module _ {C K W : Type 0} (answers : C → List ℕ → List ℕ → C → Type 0) (parts_of : C → List StoredPart) (store : K → Store) (contents : W → Option (List ℕ)) (is_older : C → List ℕ → Type 0) (first now : Serving C K W) (count : ℕ) (left left' : Option (List ℕ)) (fresh : IsFresh first.own.waiting) where
   -- the lines of a reader, handled to its end
-  abbrev pub Read : Result (Unit {0}) (Stop (LinesFault AnswerFault)) → Type 0
-  Read = ReadsLines (handles answers parts_of store contents) (flushes answers parts_of store contents) (λ (answering : Answering C). answering.waiting.items ≡ 0) (stops answers parts_of store contents is_older) first now count left left'
+  abbrev pub Read : Result (Unit {0}) (DriveStop (LinesFault AnswerFault)) → Type 0
+  Read = ReadsLines (handles answers parts_of store contents) (flushes answers parts_of store contents) (λ (answering : ResponderHandler C). answering.waiting.items ≡ 0) (stops answers parts_of store contents is_older) first now count left left'
 
   -- where it stops at a line, or behind some
   abbrev Halts : List (List ℕ) → ℕ → AnswerFault → Type 0
@@ -122,7 +122,7 @@ module _ {C K W : Type 0} (answers : C → List ℕ → List ℕ → C → Type 
     abbrev pub Ended : List ℕ → Result ServedLines LinesServeFault → Type 0
     Ended bytes result = ServesLines (Full P Q E) bytes result × FollowsStore (store first.store) (store now.store) × Stays WriterStaysAt first.out.faults now.out.faults result
 
-    module _ {end : Result (Unit {0}) (Stop (LinesFault AnswerFault))} (r : Read end) (there : List (List ℕ)) (are : AreThere P r.lines r.rest there) where
+    module _ {end : Result (Unit {0}) (DriveStop (LinesFault AnswerFault))} (r : Read end) (there : List (List ℕ)) (are : AreThere P r.lines r.rest there) where
       few : length there < 2 ^ 64
       few = omega (arith, there-few P r.read r.lines r.rest there r.stream are, r.few)
 
@@ -288,7 +288,7 @@ module _ {C K W : Type 0} (answers : C → List ℕ → List ℕ → C → Type 
         (serves_all r there are p.0 p.1 (Ok (record { lines = k })) refl (refl, all r there are p.0, refl, at_end r.ends.0, record { kept = p.0.kept; written = p.0.written }), p.0.follows, p.0.quiet)
 
     -- it stopped before
-    pub halted : (s : Stop (LinesFault AnswerFault)) (r : Read (Err s)) → (IsAtEnd left' → P) → (s ≡ stop.Input → Q) → (2 ^ 63 ≤ length r.read → E) → Ended r.read (Err (record { kind = stopped_by older s; lines = k }))
+    pub halted : (s : DriveStop (LinesFault AnswerFault)) (r : Read (Err s)) → (IsAtEnd left' → P) → (s ≡ stop.Input → Q) → (2 ^ 63 ≤ length r.read → E) → Ended r.read (Err (record { kind = stopped_by older s; lines = k }))
     halted stop.Input r at_end failed endless =
         let p = done_by r.lines r.ends.1.runs r.ends.1.flushed in
         (serves_all r r.lines (inl refl) p.0 p.1 (Err (record { kind = kinds.Input; lines = k })) refl (refl, all r r.lines (inl refl) p.0, failed refl, r.ends.0, record { kept = p.0.kept; written = p.0.written }), p.0.follows, p.0.quiet)

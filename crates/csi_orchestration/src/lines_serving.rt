@@ -15,7 +15,7 @@ use crate::responder::Responder;
 use csi_driver::{Lines, Source, Waiting};
 use csi_stores::{Counted, Keep};
 pub use fault::{LinesServeFault, LinesServeFaultKind, ServedLines};
-use handling::{Answering, stopped};
+use handling::{ResponderHandler, stopped};
 use std::alloc::Global;
 use std::io::Write;
 
@@ -75,7 +75,7 @@ pub fn serve_lines<C: Responder, K: Keep, R: Source<K, Counted<W>>, W: Write>(
     ensures writer { Stays WriterStaysAt writer.old.faults writer.new.faults result }
     ensures follows { FollowsStore (K.store keep.old) (K.store keep.new) }
 {
-    let handler = Answering {
+    let handler = ResponderHandler {
         responder,
         waiting: Waiting::new(alloc),
         is_older: false,

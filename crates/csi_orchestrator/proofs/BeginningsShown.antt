@@ -10,7 +10,7 @@ use Rattle.csi_orchestrator.proofs.Words.{IsSteadyRowIf, AreSteadyRowsIf, arith}
 use Rattle.csi_orchestrator.proofs.Lemmas.{false≢true, and_parts, each_of, among-find, among-kept, in_filter, find-map}
 use Rattle.csi_orchestrator.proofs.Lemmas.{find-none, alike, any-then, then-any, same_text-tells}
 use Rattle.csi_orchestrator.specs.declared.row.Goal.{Goal as KeptGoal}
-use Rattle.csi_orchestrator.proofs.EntryRules.{AreApart}
+use Rattle.csi_orchestrator.proofs.EntryRules.{HaveDistinctKeys}
 use Rattle.csi_orchestrator.proofs.LossViews.{after_forgetting, forgetting-shows, IsForgotten, stopped, is_stopped}
 use Rattle.csi_orchestrator.proofs.RowsAfterSending.{mark-same}
 use Rattle.csi_orchestrator.proofs.RowsLost.{with_lost, row-by, lost-mark, lost-goal, lost-tries}
@@ -24,7 +24,7 @@ abbrev pub unless_forgotten : RowShown → Option RowShown
 unless_forgotten row = cond (is_row_forgotten row) None (Some row)
 
 -- the row of a name among those that are remembered
-pub remembered-of : (rows : List RowShown) (name : List ℕ) → AreApart (λ (r : RowShown). r.name) rows → row_of (remembered rows) name ≡ option_and_then unless_forgotten (row_of rows name)
+pub remembered-of : (rows : List RowShown) (name : List ℕ) → HaveDistinctKeys (λ (r : RowShown). r.name) rows → row_of (remembered rows) name ≡ option_and_then unless_forgotten (row_of rows name)
 remembered-of [] name apart = refl
 remembered-of (row ∷ rows) name apart = grind (arith, find-none, among-kept, same_text-tells, each_of, same_text-flip, (remembered-of rows name apart.1))
 

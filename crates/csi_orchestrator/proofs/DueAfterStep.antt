@@ -28,11 +28,11 @@ new-target-free : (target other : List ℕ) → (not (same_text target other) &&
 new-target-free target other = grind arith
 
 -- another target than this one, which may be published
-abbrev is_other : List ℕ → TargetEntry → Bool
-is_other target target_entry = not (same_text target_entry.target target) && not (is_no target_entry.published)
+abbrev is_at_another_target : List ℕ → TargetEntry → Bool
+is_at_another_target target target_entry = not (same_text target_entry.target target) && not (is_no target_entry.published)
 
 -- an entry for a use leaves whether there is such a one: among the targets, in the node's entry and in the row
-others-with-target : (target : List ℕ) (target_entries : List TargetEntry) → list_any (is_other target) (with_target target target_entries) ≡ list_any (is_other target) target_entries
+others-with-target : (target : List ℕ) (target_entries : List TargetEntry) → list_any (is_at_another_target target) (with_target target target_entries) ≡ list_any (is_at_another_target target) target_entries
 others-with-target target target_entries = grind (arith, list_any-append, new-target-free)
 
 -- the same of a node's entry, or of none

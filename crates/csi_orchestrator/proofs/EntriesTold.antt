@@ -18,7 +18,7 @@ use Rattle.csi_orchestrator.specs.Public.Shown.{AreNodesApart}
 use Rattle.csi_orchestrator.proofs.TextLists.{text-same, same_text-flip}
 use Rattle.csi_orchestrator.proofs.SplitLists.{find-of_none}
 use Rattle.csi_orchestrator.proofs.RowViews.{Reads, same-then, same-sent, same-closed, same-noted}
-use Rattle.csi_orchestrator.proofs.EntryRules.{AreApart}
+use Rattle.csi_orchestrator.proofs.EntryRules.{HaveDistinctKeys}
 use Rattle.csi_orchestrator.proofs.FirstEntries.{still, entry_of, target_of, targeted, more-marks, target-marks, held-front}
 use Rattle.csi_orchestrator.proofs.RowMarks.{HasSpot, front-marked}
 use Rattle.csi_orchestrator.proofs.RowsAfterSending.{mark-same}
@@ -208,7 +208,7 @@ module _ (P : History → Type 0) (Fits : Option ℕ → List ℕ → Party → 
     told-marked entry later aspect target No spot none fits told = subst (λ (e : NodeEntryShown). IsTold P rest (row (e ∷ later))) (sym none) told
 
     -- all targets
-    told-targets : (entry : NodeEntryShown) (later : List NodeEntryShown) (targets : List TargetEntry) → AreApart (λ (t : TargetEntry). t.target) targets → AllByRecursion (TargetFits Fits name id entry) targets
+    told-targets : (entry : NodeEntryShown) (later : List NodeEntryShown) (targets : List TargetEntry) → HaveDistinctKeys (λ (t : TargetEntry). t.target) targets → AllByRecursion (TargetFits Fits name id entry) targets
         → IsTold P rest (row (targeted entry [] ∷ later)) → IsTold P rest (row (targeted entry targets ∷ later))
     told-targets entry later [] apart fits told = told
     told-targets entry later (t ∷ targets) apart fits told =

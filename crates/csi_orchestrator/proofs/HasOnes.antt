@@ -4,7 +4,7 @@ use Rattle.csi_orchestrator.proofs.Words.{subst, inl, inr, Some, None, find, All
 use Rattle.csi_orchestrator.proofs.Words.{put_by, HasOne, arith}
 use Rattle.csi_orchestrator.proofs.Lemmas.{none-some, same_Some, each-weaker, each-map, all_of, each_of}
 use Rattle.csi_orchestrator.proofs.Lemmas.{same_text-tells}
-use Rattle.csi_orchestrator.proofs.EntryRules.{AreApart}
+use Rattle.csi_orchestrator.proofs.EntryRules.{HaveDistinctKeys}
 use Rattle.csi_orchestrator.proofs.TextLists.{text-same, same_text-flip}
 
 -- a search that passes its first finds it, and one that doesn't finds what it finds of the rest
@@ -60,7 +60,7 @@ pub others-of : {X : Type 0} (key : X → List ℕ) (text : List ℕ) (Q : X →
 others-of key text Q x xs e apart all = grind (arith, all_of, same_text-flip, same_text-tells, each_of)
 
 -- of entries that are all otherwise, the one that is found is so too
-pub one-of : {X : Type 0} (key : X → List ℕ) (text : List ℕ) (P Q : X → Type 0) (x : X) (xs : List X) → AreApart key xs → AllByRecursion Q xs → find (λ y. same_text (key y) text) xs ≡ Some x → P x → HasOne key text P Q xs
+pub one-of : {X : Type 0} (key : X → List ℕ) (text : List ℕ) (P Q : X → Type 0) (x : X) (xs : List X) → HaveDistinctKeys key xs → AllByRecursion Q xs → find (λ y. same_text (key y) text) xs ≡ Some x → P x → HasOne key text P Q xs
 one-of key text P Q x [] apart all found own = absurd (none-some x found)
 one-of key text P Q x (y ∷ ys) apart all found own = by (same_text (key y) text) refl found (λ f. one-of key text P Q x ys apart.1 all.1 f own)
   where
@@ -79,7 +79,7 @@ one-last key text P Q x (y ∷ ys) all none e own = by (same_text (key y) text) 
     by false f g rest = inr (f, all.0, rest g)
 
 -- one that is put in is so
-pub one-put : {X : Type 0} (key : X → List ℕ) (P Q : X → Type 0) (x : X) (xs : List X) → AreApart key xs → AllByRecursion Q xs → P x → HasOne key (key x) P Q (put_by key x xs)
+pub one-put : {X : Type 0} (key : X → List ℕ) (P Q : X → Type 0) (x : X) (xs : List X) → HaveDistinctKeys key xs → AllByRecursion Q xs → P x → HasOne key (key x) P Q (put_by key x xs)
 one-put key P Q x [] apart all own = inl (text-same (key x), own, tt)
 one-put key P Q x (y ∷ ys) apart all own = grind (arith, text-same, others-of, (one-put key P Q x ys apart.1 all.1 own))
 

@@ -165,30 +165,30 @@ others-alike row history name node target own apart = by (node_entry_of row node
     by : (o : Option NodeEntryShown) → node_entry_of row node ≡ o → length targets ≡ others_count target o
     by None e = ap length (empty-where targets (λ t among. false≢true (sym (may t among).1 ∙ ap (λ o. is_no (mark_in (publication_known t) o)) e)))
     by (Some node_entry) e =
-        as-many-as targets (λ (a : TargetEntry). a.target) (filter is_other node_entry.target_entries)
+        as-many-as targets (λ (a : TargetEntry). a.target) (filter is_at_another_target node_entry.target_entries)
         (two-filter (λ (a b : List ℕ). same_text a b ≡ false) (λ t. not (same_text t target)) _
         (two-filter (λ (a b : List ℕ). same_text a b ≡ false) (λ (t : List ℕ). not (is_no (known history (Published name node t)))) _
         (distinct-once (filter_map (λ (i : Issued). published_target node (thing_of i)) (issued_of history name)))))
-        (two-filter (λ (a b : TargetEntry). same_text a.target b.target ≡ false) is_other node_entry.target_entries targets_apart)
-        (λ t among. let it = may t among in entry t it.0 (target_entry_of node_entry t) refl (sym (ap (λ o. is_no (mark_in (publication_known t) o)) e) ∙ it.1)) from ∙ length-filter is_other node_entry.target_entries
+        (two-filter (λ (a b : TargetEntry). same_text a.target b.target ≡ false) is_at_another_target node_entry.target_entries targets_apart)
+        (λ t among. let it = may t among in entry t it.0 (target_entry_of node_entry t) refl (sym (ap (λ o. is_no (mark_in (publication_known t) o)) e) ∙ it.1)) from ∙ length-filter is_at_another_target node_entry.target_entries
       where
-        is_other : TargetEntry → Bool
-        is_other target_entry = not (same_text target_entry.target target) && not (is_no target_entry.published)
+        is_at_another_target : TargetEntry → Bool
+        is_at_another_target target_entry = not (same_text target_entry.target target) && not (is_no target_entry.published)
 
         targets_apart : AreTargetsApart node_entry
         targets_apart = each_of AreTargetsApart row.node_entries node_entry apart (among-find (λ (p : NodeEntryShown). same_text p.node node) row.node_entries node_entry e)
 
         entry : (t : List ℕ) → not (same_text t target) ≡ true → (o : Option TargetEntry) → target_entry_of node_entry t ≡ o → is_no (mark_in (λ (a : TargetEntry). a.published) o) ≡ false
-            → (target_entry : TargetEntry) × IsAmong target_entry (filter is_other node_entry.target_entries) × (target_entry.target ≡ t)
+            → (target_entry : TargetEntry) × IsAmong target_entry (filter is_at_another_target node_entry.target_entries) × (target_entry.target ≡ t)
         entry t differs None f maybe = absurd (false≢true (sym maybe))
         entry t differs (Some target_entry) f maybe =
             let is : target_entry.target ≡ t = (same_text-tells target_entry.target t).0 (find-passes (λ (a : TargetEntry). same_text a.target t) node_entry.target_entries target_entry f) in
-            let other : is_other target_entry ≡ true = ap (λ b. b && not (is_no target_entry.published)) (ap (λ u. not (same_text u target)) is ∙ differs) ∙ ap not maybe in
-            (target_entry, in_filter is_other node_entry.target_entries target_entry (among-find (λ (a : TargetEntry). same_text a.target t) node_entry.target_entries target_entry f) other, is)
+            let other : is_at_another_target target_entry ≡ true = ap (λ b. b && not (is_no target_entry.published)) (ap (λ u. not (same_text u target)) is ∙ differs) ∙ ap not maybe in
+            (target_entry, in_filter is_at_another_target node_entry.target_entries target_entry (among-find (λ (a : TargetEntry). same_text a.target t) node_entry.target_entries target_entry f) other, is)
 
-        from : (target_entry : TargetEntry) → IsAmong target_entry (filter is_other node_entry.target_entries) → IsAmong target_entry.target targets
+        from : (target_entry : TargetEntry) → IsAmong target_entry (filter is_at_another_target node_entry.target_entries) → IsAmong target_entry.target targets
         from target_entry among =
-            let kept = among-kept is_other node_entry.target_entries target_entry among in
+            let kept = among-kept is_at_another_target node_entry.target_entries target_entry among in
             let parts = and_parts (not (same_text target_entry.target target)) (not (is_no target_entry.published)) kept.1 in
             let mark : mark_in (publication_known target_entry.target) (node_entry_of row node) ≡ target_entry.published = ap (mark_in (publication_known target_entry.target)) e ∙ ap (mark_in (λ (a : TargetEntry). a.published)) (own-entry (λ (a : TargetEntry). a.target) node_entry.target_entries target_entry targets_apart kept.0) in
             in_filter (λ t. not (same_text t target)) (targets_in_use history name node) target_entry.target
@@ -197,29 +197,29 @@ others-alike row history name node target own apart = by (node_entry_of row node
 -- the other nodes in use are as many as the other entries that may be attached
 pub nodes-alike : (row : RowShown) (history : History) (name node : List ℕ) → IsRowOf row history name → AreNodesApart row.node_entries → length (other_nodes history name node) ≡ others_attached node row
 nodes-alike row history name node own apart =
-    as-many-as (other_nodes history name node) (λ (p : NodeEntryShown). p.node) (filter is_other row.node_entries)
+    as-many-as (other_nodes history name node) (λ (p : NodeEntryShown). p.node) (filter is_at_another_node row.node_entries)
     (two-filter (λ (a b : List ℕ). same_text a b ≡ false) (λ other. not (same_text other node)) _
     (two-filter (λ (a b : List ℕ). same_text a b ≡ false) (λ (n : List ℕ). not (is_no (known history (Attached name n)))) _
     (distinct-once (filter_map (λ (i : Issued). attached_node (thing_of i)) (issued_of history name)))))
-    (two-filter (λ (a b : NodeEntryShown). same_text a.node b.node ≡ false) is_other row.node_entries apart) there back
-    ∙ length-filter is_other row.node_entries
+    (two-filter (λ (a b : NodeEntryShown). same_text a.node b.node ≡ false) is_at_another_node row.node_entries apart) there back
+    ∙ length-filter is_at_another_node row.node_entries
   where
-    is_other : NodeEntryShown → Bool
-    is_other p = not (same_text p.node node) && not (is_no p.attached)
+    is_at_another_node : NodeEntryShown → Bool
+    is_at_another_node p = not (same_text p.node node) && not (is_no p.attached)
 
-    there : (other : List ℕ) → IsAmong other (other_nodes history name node) → (p : NodeEntryShown) × IsAmong p (filter is_other row.node_entries) × (p.node ≡ other)
+    there : (other : List ℕ) → IsAmong other (other_nodes history name node) → (p : NodeEntryShown) × IsAmong p (filter is_at_another_node row.node_entries) × (p.node ≡ other)
     there other among =
         let kept = among-kept (λ other. not (same_text other node)) (nodes_in_use history name) other among in
         let entry = entry-of-node row history name other own kept.0 in
         let differs : not (same_text entry.0.node node) ≡ true = ap (λ n. not (same_text n node)) entry.2 ∙ kept.1 in (
           entry.0,
-          in_filter is_other row.node_entries entry.0 entry.1 (ap (λ b. b && not (is_no entry.0.attached)) differs ∙ ap not entry.3),
+          in_filter is_at_another_node row.node_entries entry.0 entry.1 (ap (λ b. b && not (is_no entry.0.attached)) differs ∙ ap not entry.3),
           entry.2,
         )
 
-    back : (p : NodeEntryShown) → IsAmong p (filter is_other row.node_entries) → IsAmong p.node (other_nodes history name node)
+    back : (p : NodeEntryShown) → IsAmong p (filter is_at_another_node row.node_entries) → IsAmong p.node (other_nodes history name node)
     back p among =
-        let kept = among-kept is_other row.node_entries p among in
+        let kept = among-kept is_at_another_node row.node_entries p among in
         let parts = and_parts (not (same_text p.node node)) (not (is_no p.attached)) kept.1 in
         in_filter (λ other. not (same_text other node)) (nodes_in_use history name) p.node (entry-in-use row history name p own apart kept.0 (not-true (is_no p.attached) parts.1)).0 parts.0
 

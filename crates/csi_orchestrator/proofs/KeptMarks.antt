@@ -57,21 +57,21 @@ abbrev AreTargets : List ℕ → Known → List TargetEntry → Type 0
 AreTargets target mark ts = HasOne target_of target (λ (t : TargetEntry). t.published ≡ mark) (λ (t : TargetEntry). t.published ≡ Yes) ts
 
 -- the volume may be published at another target
-abbrev is_other : List ℕ → TargetEntry → Bool
-is_other target t = not (same_text t.target target) && not (is_no t.published)
+abbrev is_at_another_target : List ℕ → TargetEntry → Bool
+is_at_another_target target t = not (same_text t.target target) && not (is_no t.published)
 
 -- where it may be at no other target, there is one
-pub alone-then : (target : List ℕ) (mark : Known) (ts : List TargetEntry) → AreTargets target mark ts → list_any (is_other target) ts ≡ false → length ts ≡ 1
+pub alone-then : (target : List ℕ) (mark : Known) (ts : List TargetEntry) → AreTargets target mark ts → list_any (is_at_another_target target) ts ≡ false → length ts ≡ 1
 alone-then target mark [] one none = absurd one
 alone-then target mark (t ∷ []) (inl here) none = refl
 alone-then target mark (t ∷ u ∷ us) (inl here) none =
-    let second = or_parts (is_other target u) (list_any (is_other target) us) (or_parts (is_other target t) _ none).1 in
+    let second = or_parts (is_at_another_target target u) (list_any (is_at_another_target target) us) (or_parts (is_at_another_target target t) _ none).1 in
     absurd (false≢true (sym second.0 ∙ ap (λ b. not b && not (is_no u.published)) here.2.0.0 ∙ ap (λ k. not (is_no k)) here.2.0.1))
 alone-then target mark (t ∷ ts) (inr later) none =
-    absurd (false≢true (sym (or_parts (is_other target t) (list_any (is_other target) ts) none).0 ∙ ap (λ b. not b && not (is_no t.published)) later.0 ∙ ap (λ k. not (is_no k)) later.1))
+    absurd (false≢true (sym (or_parts (is_at_another_target target t) (list_any (is_at_another_target target) ts) none).0 ∙ ap (λ b. not b && not (is_no t.published)) later.0 ∙ ap (λ k. not (is_no k)) later.1))
 
 -- where there is one, it may be at no other target
-pub then-alone : (target : List ℕ) (mark : Known) (ts : List TargetEntry) → AreTargets target mark ts → length ts ≡ 1 → list_any (is_other target) ts ≡ false
+pub then-alone : (target : List ℕ) (mark : Known) (ts : List TargetEntry) → AreTargets target mark ts → length ts ≡ 1 → list_any (is_at_another_target target) ts ≡ false
 then-alone target mark [] one long = absurd one
 then-alone target mark (t ∷ []) (inl here) long = ap (λ b. (not b && not (is_no t.published)) || false) here.0
 then-alone target mark (t ∷ []) (inr later) long = absurd later.2

@@ -3,7 +3,7 @@ use Rattle.csi_orchestrator.proofs.Words.{◌≡◌, Bool, true, refl, sym, ◌�
 use Rattle.csi_orchestrator.proofs.Words.{option_and_then, find, ◌&&◌, Kind, Party, Number, kind_of, IsAmong, same_text}
 use Rattle.csi_orchestrator.proofs.Words.{same_number, same_party, same_kind, OpenCall, Issued, History, open_call}
 use Rattle.csi_orchestrator.proofs.Words.{issued_in, call_replied, is_number_open, IsWellFormed, Due, call_for}
-use Rattle.csi_orchestrator.proofs.Words.{RowShown, OrchestratorParts, row_of, goal_in, issued_as, open_in_row, Shows}
+use Rattle.csi_orchestrator.proofs.Words.{RowShown, OrchestratorParts, row_of, goal_in, issued_of_open_call, open_in_row, Shows}
 use Rattle.csi_orchestrator.proofs.Words.{due_open, is_issued_as, row_replied, AreSoundRows, arith}
 use Rattle.csi_orchestrator.proofs.Lemmas.{and_parts, and_from, false≢true, false_from_ne_true, among-find, none_passes}
 use Rattle.csi_orchestrator.proofs.Lemmas.{find-passes, find-one, find-none, none-some, same_text-tells}
@@ -57,10 +57,10 @@ hears-it row number party kind e = by row.open_call refl e
           has_number = such.has_number;
           has_kind = such.has_kind;
           is_open = ap (λ o. due_open (record row { open_call = o })) own ∙ is;
-          told = ap (option_and_then (issued_as row)) own ∙ ap (option_map (issued-by row.name kept.number)) is ∙ ap (λ n. Some (issued-by row.name n due)) such.has_number;
+          told = ap (option_and_then (issued_of_open_call row)) own ∙ ap (option_map (issued-by row.name kept.number)) is ∙ ap (λ n. Some (issued-by row.name n due)) such.has_number;
         }
 
-    by : (o : Option OpenCall) → row.open_call ≡ o → is_issued_as number party kind (option_and_then (issued_as row) o) ≡ true → HearsIt row number party kind
+    by : (o : Option OpenCall) → row.open_call ≡ o → is_issued_as number party kind (option_and_then (issued_of_open_call row) o) ≡ true → HearsIt row number party kind
     by None own f = absurd (false≢true f)
     by (Some kept) own f = found kept own (call_for row.name (goal_in row) row.id kept.kind) refl f
 

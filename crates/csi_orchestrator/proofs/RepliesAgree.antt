@@ -9,7 +9,7 @@ use Rattle.csi_orchestrator.proofs.Words.{ToStop, ToDelete, TimesOut, Comes, Res
 use Rattle.csi_orchestrator.proofs.Words.{Moved, send_due, is_forward, is_forward_due, undoing_goal, closing, timeout}
 use Rattle.csi_orchestrator.proofs.Words.{hears, call_replied, heard, heard_refusal, deliver, moves, OrchestratorView}
 use Rattle.csi_orchestrator.proofs.Words.{Agrees, after_accepted, after_closed, after_noted, RowShown}
-use Rattle.csi_orchestrator.proofs.Words.{OrchestratorParts, row_of, goal_shown, held_on_node, open_in_row, issued_as}
+use Rattle.csi_orchestrator.proofs.Words.{OrchestratorParts, row_of, goal_shown, held_on_node, open_in_row, issued_of_open_call}
 use Rattle.csi_orchestrator.proofs.Words.{orchestrator_view, Shows, closed, due_in, kind_due, succeeded_row}
 use Rattle.csi_orchestrator.proofs.Words.{wanted_row, stopped_goal, idle_refusal, MovedRow, row_sends_due, row_rests}
 use Rattle.csi_orchestrator.proofs.Words.{row_unless, waits_for, is_given_up, timed_out, failed, MovedRows, moved_rows}
@@ -46,7 +46,7 @@ forward-due : (row : RowShown) → is_forward_due (due_in row) ≡ true → (usa
 forward-due row forward = grind (arith, false≢true, forward-goal, due-cases)
 
 -- an open call is of its row's name
-open-name : (row : RowShown) (o : Option OpenCall) (issued : Issued) → option_and_then (issued_as row) o ≡ Some issued → issued.name ≡ row.name
+open-name : (row : RowShown) (o : Option OpenCall) (issued : Issued) → option_and_then (issued_of_open_call row) o ≡ Some issued → issued.name ≡ row.name
 open-name row o issued e = grind (arith, none-some, issued-by, same_Some)
 
 -- its call was closed, by a timeout or by a refusal: it tells what is shown after these items

@@ -15,12 +15,12 @@ pub next-none : (catalog : Catalog) (own : Option OpenCall) → own ≡ None →
 next-none catalog own none = record { is = λ kept e. absurd (none-some kept (sym none ∙ e)); new = λ call e. absurd (none-some call e) }
 
 -- rows of which each two have different names
-abbrev AreApart : List Row → Type 0
-AreApart rows = EachTwo (λ (one other : Row). same_text one.name other.name ≡ false) rows
+abbrev HaveDistinctNames : List Row → Type 0
+HaveDistinctNames rows = EachTwo (λ (one other : Row). same_text one.name other.name ≡ false) rows
 
 -- none of those in front has the name of the one behind them
-pub new-name : (front : List Row) (row : Row) (rear whole : List Row) → front ++ row ∷ rear ≡ whole → AreApart whole → position (λ (other : Row). same_text other.name row.name) front ≡ None
-new-name front row rear whole is apart = nowhere front (two-there (λ (one other : Row). same_text one.name other.name ≡ false) front row rear (subst AreApart (sym is) apart)).0
+pub new-name : (front : List Row) (row : Row) (rear whole : List Row) → front ++ row ∷ rear ≡ whole → HaveDistinctNames whole → position (λ (other : Row). same_text other.name row.name) front ≡ None
+new-name front row rear whole is apart = nowhere front (two-there (λ (one other : Row). same_text one.name other.name ≡ false) front row rear (subst HaveDistinctNames (sym is) apart)).0
   where
     failing : (xs : List Row) (k : ℕ) (d : Row) → AllByRecursion (λ (other : Row). same_text other.name row.name ≡ false) xs → k < length xs → same_text (get_or xs k d).name row.name ≡ false
     failing [] k d all inside = absurd (omega (arith, inside))

@@ -6,7 +6,7 @@ use Rattle.csi_orchestrator.proofs.Words.{list_all, IsAmong, same_text, TargetEn
 use Rattle.csi_orchestrator.proofs.Words.{NodeEntryShown, is_yes, AreTargetsApart, HasOne, IsAtWork, HasMarks, IsLast}
 use Rattle.csi_orchestrator.proofs.Words.{is_published, is_way, is_at_target}
 use Rattle.csi_orchestrator.proofs.Lemmas.{and_from, and_parts, eq-eqb, false≢true, each-weaker}
-use Rattle.csi_orchestrator.proofs.EntryRules.{AreApart}
+use Rattle.csi_orchestrator.proofs.EntryRules.{HaveDistinctKeys}
 use Rattle.csi_orchestrator.proofs.HasOnes.{others-of}
 use Rattle.csi_orchestrator.proofs.Tells.{Tells, never, passes, like, same_test, yes_tells, empty, both, where_so, each, each_shown}
 use Rattle.csi_orchestrator.proofs.KnownTests.{yes_is_yes}
@@ -16,7 +16,7 @@ use Rattle.csi_orchestrator.proofs.KnownTests.{yes_is_yes}
 -- of a list that is walked along so, as it is shown, one is so
 pub one_tells : {R X : Type 0} (view : R → X) (key : X → List ℕ) (text : List ℕ) (P Q : X → Type 0) (here other : R → Bool) (walk : List R → Bool) → walk [] ≡ false
     → ((r : R) (rs : List R) → walk (r ∷ rs) ≡ cond (same_text (key (view r)) text) (here r && list_all other rs) (other r && walk rs)) → ((r : R) → Tells (other r) (Q (view r)))
-    → (rs : List R) → ((r : R) → IsAmong (view r) (map view rs) → Tells (here r) (P (view r))) → AreApart key (map view rs) → Tells (walk rs) (HasOne key text P Q (map view rs))
+    → (rs : List R) → ((r : R) → IsAmong (view r) (map view rs) → Tells (here r) (P (view r))) → HaveDistinctKeys key (map view rs) → Tells (walk rs) (HasOne key text P Q (map view rs))
 one_tells view key text P Q here other walk ends on rest [] own apart = same_test ends (never (λ one. one))
 one_tells view key text P Q here other walk ends on rest (r ∷ rs) own apart =
     same_test (on r rs) (by (same_text (key (view r)) text) refl (one_tells view key text P Q here other walk ends on rest rs (λ s among. own s (inr among)) apart.1))
@@ -90,7 +90,7 @@ here_tells must first attached staged published later =
     both (way (first && (length later == 0)) attached staged published) (both (where_so must (empty later)) (each is_published (λ (u : TargetEntry). u.published ≡ Yes) (λ u. yes_tells u.published) later))
 
 -- by the test
-targets-from : (must : Bool) (attached staged : Known) (target : List ℕ) (first : Bool) (targets : List TargetEntry) → AreApart (λ (t : TargetEntry). t.target) targets → is_at_target must attached staged target first targets ≡ true
+targets-from : (must : Bool) (attached staged : Known) (target : List ℕ) (first : Bool) (targets : List TargetEntry) → HaveDistinctKeys (λ (t : TargetEntry). t.target) targets → is_at_target must attached staged target first targets ≡ true
     → AreMarkedSo must attached staged target first targets
 targets-from must attached staged target first [] apart h = absurd (false≢true h)
 targets-from must attached staged target first (t ∷ later) apart h = by (same_text t.target target) refl h (λ e. targets-from must attached staged target false later apart.1 e)

@@ -76,7 +76,7 @@ pub use Rattle.csi_orchestrator.specs.Model.Readings.{last_in, last_number, life
 pub use Rattle.csi_orchestrator.specs.Model.Readings.{nodes_of, noted_for, open_call, open_in, since, tries, unless}
 pub use Rattle.csi_orchestrator.specs.Model.Readings.{with_name}
 pub use Rattle.csi_orchestrator.specs.Model.Shown.{NodeEntryShown, OrchestratorParts, RowShown, Shows, goal_in}
-pub use Rattle.csi_orchestrator.specs.Model.Shown.{goal_shown, held_at, held_on_node, issued_as, mark_in, mark_of}
+pub use Rattle.csi_orchestrator.specs.Model.Shown.{goal_shown, held_at, held_on_node, issued_of_open_call, mark_in, mark_of}
 pub use Rattle.csi_orchestrator.specs.Model.Shown.{node_entry_of, open_in_row, orchestrator_view, publication_known}
 pub use Rattle.csi_orchestrator.specs.Model.Shown.{row_of, target_entry_of, tries_in}
 pub use Rattle.csi_orchestrator.specs.Model.Thing.{Issued, is_doing, is_no, is_thing, is_yes, name_in, same_thing}

@@ -47,7 +47,7 @@ fn mark_target(target_entries: &mut Vec<TargetEntry>, target: &Target, known: Kn
 }
 
 // Marks in the entry of a node what a call of this kind does or undoes there.
-fn mark_node(entry: &mut NodeEntry, target: &Target, kind: Kind, known: Known)
+fn mark_entry(entry: &mut NodeEntry, target: &Target, kind: Kind, known: Known)
     ensures { node_entry_shown entry.new ≡ node_marked known (aspect_of kind) target.now (node_entry_shown entry.old) }
 {
     match kind {
@@ -71,7 +71,7 @@ pub(crate) fn mark_at(
     ensures { map node_entry_shown entries.new.items ≡ marked_at known (aspect_of kind) node.now target.now (map node_entry_shown entries.old.items) }
 {
     if let Some(index) = node_index(entries, node) {
-        mark_node(&mut entries[index], target, kind, known);
+        mark_entry(&mut entries[index], target, kind, known);
     }
 }
 

@@ -7,7 +7,7 @@ mod plain;
 mod sessions;
 mod worked;
 
-use crate::playing::{Ask, Plugin};
+use crate::playing::{Ask, PlayedPlugin};
 use crate::values::{Told, block, blocks, config, name, node_id, reply, room, volume_id};
 use csi_controller::{Controller, ControllerRecord, ControllerRow, CoreFault, NodeHolding};
 use csi_types::{Frame, Kind, Mode, Number, Status, VolumeId};
@@ -121,7 +121,7 @@ fn is_same_record(a: &ControllerRecord, b: &ControllerRecord) -> bool {
     a.next_id() == b.next_id() && a.session() == b.session() && a.rows() == b.rows()
 }
 
-impl Plugin for Controller {
+impl PlayedPlugin for Controller {
     fn answer_in_the_end<R: Abort + AllocGlobal>(
         &mut self,
         rt: &R,

@@ -5,7 +5,7 @@ mod lent;
 mod sessions;
 mod table;
 
-use crate::playing::{Ask, Plugin, frame_of};
+use crate::playing::{Ask, PlayedPlugin, frame_of};
 use crate::values::{Told, device, node_id, reply, room, target, volume_id};
 use csi_node::{CoreFault, Node, NodeRecord, NodeRow, NodeTarget, Published, Staged};
 use csi_types::{Frame, Kind, Mode, Number, Status, VolumeId};
@@ -85,7 +85,7 @@ fn is_same_record(a: &NodeRecord, b: &NodeRecord) -> bool {
     a.id() == b.id() && a.session() == b.session() && a.rows() == b.rows()
 }
 
-impl Plugin for Node {
+impl PlayedPlugin for Node {
     fn answer_in_the_end<R: Abort + AllocGlobal>(
         &mut self,
         rt: &R,

@@ -32,7 +32,7 @@ pub(crate) type Left = (u64, usize, &'static [u64]);
 pub(crate) type Line = ((u64, u64), Ask, Told, Left);
 
 /// A plugin that is played.
-pub(crate) trait Plugin {
+pub(crate) trait PlayedPlugin {
     /// Its answer. Where it wants memory it is as it was, and then answers.
     fn answer_in_the_end<R: Abort + AllocGlobal>(&mut self, rt: &R, frame: &Frame) -> Option<Frame>;
 
@@ -125,7 +125,7 @@ pub(crate) fn is_reply(reply: &Frame, call: &Frame, kind: Kind, told: Told) -> b
 }
 
 /// The plugin answers the call so.
-pub(crate) fn answers<P: Plugin>(
+pub(crate) fn answers<P: PlayedPlugin>(
     rt: &(impl Abort + AllocGlobal),
     plugin: &mut P,
     number: Number,
@@ -140,7 +140,7 @@ pub(crate) fn answers<P: Plugin>(
 }
 
 /// The plugin answers these calls so, one after another.
-pub(crate) fn plays<P: Plugin>(rt: &(impl Abort + AllocGlobal), plugin: &mut P, steps: &[Step]) {
+pub(crate) fn plays<P: PlayedPlugin>(rt: &(impl Abort + AllocGlobal), plugin: &mut P, steps: &[Step]) {
     for (call, ask, told) in steps {
         answers(rt, plugin, number(*call), *ask, *told);
     }
@@ -157,7 +157,7 @@ fn are_ids(found: &[VolumeId], ids: &[u64]) -> bool {
 }
 
 /// Whether this is there.
-pub(crate) fn has_left<P: Plugin>(rt: &impl Abort, plugin: &P, left: Left) -> bool {
+pub(crate) fn has_left<P: PlayedPlugin>(rt: &impl Abort, plugin: &P, left: Left) -> bool {
     let (session, count, empty) = plugin.left_in_the_end(rt);
     let are_empty = are_ids(empty.as_slice(), left.2);
     drop(empty);
@@ -165,7 +165,7 @@ pub(crate) fn has_left<P: Plugin>(rt: &impl Abort, plugin: &P, left: Left) -> bo
 }
 
 /// The plugin answers these calls so, one after another, and each leaves this.
-pub(crate) fn all_come<P: Plugin>(rt: &(impl Abort + AllocGlobal), plugin: &mut P, lines: &[Line]) {
+pub(crate) fn all_come<P: PlayedPlugin>(rt: &(impl Abort + AllocGlobal), plugin: &mut P, lines: &[Line]) {
     for ((session, call), ask, told, left) in lines {
         let number = Number {
             session: *session,

@@ -59,26 +59,26 @@ owner-of-orchestrator-alone parts is = ap owner is.there.spelled.are
 -- ---- kinds of records
 
 -- parts that begin as a record of the one kind are no record of the other
-abbrev AreApart : (List StoredPart → Type 0) → (List StoredPart → Type 0) → Type 0
-AreApart One Other = (parts more : List StoredPart) → One parts → Other (parts ++ more) → ⊥
+abbrev NeverBegins : (List StoredPart → Type 0) → (List StoredPart → Type 0) → Type 0
+NeverBegins One Other = (parts more : List StoredPart) → One parts → Other (parts ++ more) → ⊥
 
 -- nodes' records and orchestrators'
-node-apart : AreApart (IsNodeRecord None) IsOrchestratorRecord
-node-apart parts more of_node of_orchestrator = omega (arith, owner-of-node parts more of_node, owner-of-orchestrator-alone (parts ++ more) of_orchestrator)
+node-never-begins : NeverBegins (IsNodeRecord None) IsOrchestratorRecord
+node-never-begins parts more of_node of_orchestrator = omega (arith, owner-of-node parts more of_node, owner-of-orchestrator-alone (parts ++ more) of_orchestrator)
 
 -- the other way round
-orchestrator-apart : AreApart IsOrchestratorRecord (IsNodeRecord None)
-orchestrator-apart parts more of_orchestrator of_node = omega (arith, owner-of-orchestrator parts more of_orchestrator, owner-of-node-alone (parts ++ more) of_node)
+orchestrator-never-begins : NeverBegins IsOrchestratorRecord (IsNodeRecord None)
+orchestrator-never-begins parts more of_orchestrator of_node = omega (arith, owner-of-orchestrator parts more of_orchestrator, owner-of-node-alone (parts ++ more) of_node)
 
 -- controllers' records and all others
-controller-apart : AreApart IsControllerRecord IsNodeOrOrchestrator
-controller-apart parts more of_controller (inl of_node) = omega (arith, owner-of-controller parts more of_controller, owner-of-node-alone (parts ++ more) of_node)
-controller-apart parts more of_controller (inr of_orchestrator) = omega (arith, owner-of-controller parts more of_controller, owner-of-orchestrator-alone (parts ++ more) of_orchestrator)
+controller-never-begins : NeverBegins IsControllerRecord IsNodeOrOrchestrator
+controller-never-begins parts more of_controller (inl of_node) = omega (arith, owner-of-controller parts more of_controller, owner-of-node-alone (parts ++ more) of_node)
+controller-never-begins parts more of_controller (inr of_orchestrator) = omega (arith, owner-of-controller parts more of_controller, owner-of-orchestrator-alone (parts ++ more) of_orchestrator)
 
 -- the other way round
-others-apart : AreApart IsNodeOrOrchestrator IsControllerRecord
-others-apart parts more (inl of_node) of_controller = omega (arith, owner-of-node parts more of_node, owner-of-controller-alone (parts ++ more) of_controller)
-others-apart parts more (inr of_orchestrator) of_controller = omega (arith, owner-of-orchestrator parts more of_orchestrator, owner-of-controller-alone (parts ++ more) of_controller)
+others-never-begin : NeverBegins IsNodeOrOrchestrator IsControllerRecord
+others-never-begin parts more (inl of_node) of_controller = omega (arith, owner-of-node parts more of_node, owner-of-controller-alone (parts ++ more) of_controller)
+others-never-begin parts more (inr of_orchestrator) of_controller = omega (arith, owner-of-orchestrator parts more of_orchestrator, owner-of-controller-alone (parts ++ more) of_controller)
 
 -- ---- where they are refused
 
@@ -102,7 +102,7 @@ module _ (One Other : List StoredPart → Type 0) where
   Either parts = One parts ⊎ Other parts
 
   -- what refuses parts behind the first for the one kind refuses them for both
-  refused_behind : AreApart One Other → (parts : List StoredPart) (place : ℕ) → 0 < place → IsNoneAt One parts place → IsNoneAt Either parts place
+  refused_behind : NeverBegins One Other → (parts : List StoredPart) (place : ℕ) → 0 < place → IsNoneAt One parts place → IsNoneAt Either parts place
   refused_behind apart parts place behind (inl none) = absurd (omega (arith, none.1, behind))
   refused_behind apart parts place behind (inr at) = inr (record {
     before = at.before;
@@ -119,7 +119,7 @@ module _ (One Other : List StoredPart → Type 0) where
     refused (inr begun) (inr is) = apart at.before (at.part ∷ []) begun is
 
   -- where the first part is refused for the one kind, what refuses the parts for the other refuses them for both
-  refused_first : AreApart Other One → (parts : List StoredPart) (first place : ℕ) → first ≡ 0 → IsNoneAt One parts first → IsNoneAt Other parts place → IsNoneAt Either parts place
+  refused_first : NeverBegins Other One → (parts : List StoredPart) (first place : ℕ) → first ≡ 0 → IsNoneAt One parts first → IsNoneAt Other parts place → IsNoneAt Either parts place
   refused_first apart parts first place front other (inl none) = inl none
   refused_first apart parts first place front other (inr at) = inr (record {
     before = at.before;
@@ -139,7 +139,7 @@ module _ (One Other : List StoredPart → Type 0) where
         too.refused (subst One same is)
 
   -- why the other kind has no line is why there is none, where the one kind refuses the first part
-  for_both : AreApart Other One → (parts : List StoredPart) (first : ℕ) → first ≡ 0 → IsNoneAt One parts first → (ending : Ending) → HasNoLine Other parts ending → HasNoLine Either parts ending
+  for_both : NeverBegins Other One → (parts : List StoredPart) (first : ℕ) → first ≡ 0 → IsNoneAt One parts first → (ending : Ending) → HasNoLine Other parts ending → HasNoLine Either parts ending
   for_both apart parts first zero other (endings.RecordFault place) why = refused_first apart parts first place zero other why
   for_both apart parts first zero other endings.Memory why = tt
   for_both apart parts first zero other ending why = absurd why
@@ -148,17 +148,17 @@ module _ (One Other : List StoredPart → Type 0) where
 
 -- behind a controller's head
 pub refused_controller : (parts : List StoredPart) (place : ℕ) → 0 < place → IsNoneAt IsControllerRecord parts place → IsNoneAt (λ ps. IsControllerRecord ps ⊎ IsNodeOrOrchestrator ps) parts place
-refused_controller = refused_behind IsControllerRecord IsNodeOrOrchestrator controller-apart
+refused_controller = refused_behind IsControllerRecord IsNodeOrOrchestrator controller-never-begins
 
 -- behind a node's
 pub refused_node : (parts : List StoredPart) (place : ℕ) → 0 < place → IsNoneAt (IsNodeRecord None) parts place → IsNoneAt IsNodeOrOrchestrator parts place
-refused_node = refused_behind (IsNodeRecord None) IsOrchestratorRecord node-apart
+refused_node = refused_behind (IsNodeRecord None) IsOrchestratorRecord node-never-begins
 
 -- where the first part is no controller's head
 pub no_controller : (parts : List StoredPart) (first : ℕ) → first ≡ 0 → IsNoneAt IsControllerRecord parts first → (ending : Ending) → HasNoLine IsNodeOrOrchestrator parts ending
     → HasNoLine (λ ps. IsControllerRecord ps ⊎ IsNodeOrOrchestrator ps) parts ending
-no_controller = for_both IsControllerRecord IsNodeOrOrchestrator others-apart
+no_controller = for_both IsControllerRecord IsNodeOrOrchestrator others-never-begin
 
 -- nor a node's
 pub no_node : (parts : List StoredPart) (first : ℕ) → first ≡ 0 → IsNoneAt (IsNodeRecord None) parts first → (ending : Ending) → HasNoLine IsOrchestratorRecord parts ending → HasNoLine IsNodeOrOrchestrator parts ending
-no_node = for_both (IsNodeRecord None) IsOrchestratorRecord orchestrator-apart
+no_node = for_both (IsNodeRecord None) IsOrchestratorRecord orchestrator-never-begins

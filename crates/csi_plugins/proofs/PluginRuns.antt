@@ -13,7 +13,7 @@ use Rattle.csi_service.specs.Public.StoreOpening.{StaysFor}
 use Rattle.csi_service.proofs.JoinedSessions.{not-earlier}
 use Rattle.csi_service.proofs.RecordParts.{node-wanted}
 use Rattle.csi_stores.specs.Public.Part.{StoredPart}
-use Rattle.csi_plugins.specs.declared.kind.Plugin.TheVariants.{Controller, Node}
+use Rattle.csi_plugins.specs.declared.kind.AskedPlugin.TheVariants.{Controller, Node}
 use Rattle.csi_plugins.specs.Public.Serving.{IsNodeJoined, NodeServes}
 use Rattle.csi_plugins.specs.Public.Joined.{Process, Sight, controller_way, node_way, Opened, Reopens, RunsLaw, ThreeRunsLaw}
 use Rattle.csi_plugins.proofs.JoinedRuns.{IsSteady, onward, found-again, found-past, three-joined}

@@ -10,9 +10,9 @@ use csi_service::KeepFault;
 use csi_types::{Config, NodeId, TextFault};
 use std::alloc::Global;
 
-/// A plugin, and what it has to be told. This profile's own.
+/// The plugin that is asked for, and what it has to be told. This profile's own.
 #[derive(Drop)]
-pub enum Plugin {
+pub enum AskedPlugin {
     /// The controller plugin, under this configuration.
     Controller(Config),
     /// The plugin of the node of this id, which joined with this session.
@@ -47,10 +47,10 @@ pub fn asked_session(alloc: Global, word: Option<&str>) -> Result<u64, Ending>
     }
 }
 
-impl Plugin {
+impl AskedPlugin {
     /// The controller plugin under the configuration that these bytes say, in the format of a schedule's `config`. `NotUtf8` where
     /// they are no UTF-8, `ConfigRefused` where they are and say none, and `Memory` where an allocation was refused.
-    pub fn of_config(alloc: Global, input: &[u8]) -> Result<Plugin, Ending>
+    pub fn of_config(alloc: Global, input: &[u8]) -> Result<AskedPlugin, Ending>
         ensures made { IfOk result (IsOfConfig input.now) }
         ensures refused { IfErr result (IsNoConfig input.now) }
     {
@@ -58,7 +58,7 @@ impl Plugin {
             return Err(Ending::NotUtf8);
         };
         match read_config(alloc, text) {
-            Ok(config) => Ok(Plugin::Controller(config)),
+            Ok(config) => Ok(AskedPlugin::Controller(config)),
             Err(ScheduleFault::NoMemory) => Err(Ending::Memory),
             Err(_) => Err(Ending::ConfigRefused),
         }
@@ -66,13 +66,13 @@ impl Plugin {
 
     /// The plugin of the node that has this id and joined with the session that the word says (`asked_session`). `Usage` where the word says
     /// none, `ConfigRefused` where a node can't have this id, and `Memory` where an allocation was refused.
-    pub fn of_id(alloc: Global, id: &str, word: Option<&str>) -> Result<Plugin, Ending>
+    pub fn of_id(alloc: Global, id: &str, word: Option<&str>) -> Result<AskedPlugin, Ending>
         ensures made { IfOk result (IsOfId id.now (option_map (λ text. text.now) word.entry)) }
         ensures refused { IfErr result (IsNoId id.now (option_map (λ text. text.now) word.entry)) }
     {
         let session = asked_session(alloc, word)?;
         match NodeId::try_new(alloc, id) {
-            Ok(id) => Ok(Plugin::Node { id, session }),
+            Ok(id) => Ok(AskedPlugin::Node { id, session }),
             Err(TextFault::NoMemory) => Err(Ending::Memory),
             Err(_) => Err(Ending::ConfigRefused),
         }

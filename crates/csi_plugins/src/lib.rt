@@ -16,7 +16,7 @@ mod service;
 
 pub use ending::ending_unopened;
 pub use joined::{memory_runs_law, runs_law, three_runs_law};
-pub use kind::{Plugin, asked_session};
+pub use kind::{AskedPlugin, asked_session};
 pub use rebuilding::rebuild;
 pub use recording::record;
 pub use recovering::{Recovery, recover};

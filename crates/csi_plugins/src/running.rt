@@ -5,7 +5,7 @@ ghost use Rattle.csi_plugins.specs.Public.Ending.{EndsAt};
 ghost use Rattle.csi_plugins.specs.Public.Running.{ControllerRuns, NodeRuns, PluginRuns};
 
 use crate::ending::{ending_of_node, ending_of_store};
-use crate::kind::Plugin;
+use crate::kind::AskedPlugin;
 use crate::service::served;
 use csi_endings::Ending;
 use csi_service::{ControllerService, Counted, Keep, NodeService};
@@ -60,7 +60,7 @@ fn run_node<K: Keep, R: Read, W: Write>(
 /// before. This profile's own.
 pub fn plugin<K: Keep, R: Read, W: Write>(
     alloc: Global,
-    plugin: Plugin,
+    plugin: AskedPlugin,
     keep: &mut K,
     reader: &mut Counted<R>,
     writer: &mut Counted<W>,
@@ -70,7 +70,7 @@ pub fn plugin<K: Keep, R: Read, W: Write>(
     ensures foreign { (K.store keep.new).honest → (place : ℕ) → (K.store keep.old).foreign place → EndsAt place result }
 {
     match plugin {
-        Plugin::Controller(config) => run_controller(alloc, config, keep, reader, writer),
-        Plugin::Node { id, session } => run_node(alloc, id, session, keep, reader, writer),
+        AskedPlugin::Controller(config) => run_controller(alloc, config, keep, reader, writer),
+        AskedPlugin::Node { id, session } => run_node(alloc, id, session, keep, reader, writer),
     }
 }

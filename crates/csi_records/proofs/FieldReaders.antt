@@ -16,7 +16,7 @@ use Rattle.csi_records.specs.declared.version.RecordVersion.TheVariants.{One, Tw
 use Rattle.csi_records.specs.Public.Version.{record_version_number, modes_of}
 use Rattle.csi_records.specs.Private.Version.{record_version_from_number}
 use Rattle.csi_frames.specs.declared.fault.FaultKind.TheVariants.{LengthDiffers, BadCount}
-use Rattle.csi_frames.specs.declared.fields.Stop.{Stop}
+use Rattle.csi_frames.specs.declared.fields.FieldStop.{FieldStop}
 use Rattle.csi_frames.specs.Public.Grammar.{Grammar, End, any, at_most}
 use Rattle.csi_frames.specs.Public.Kinds.{kind_from_number, reply_kind_from}
 use Rattle.csi_frames.specs.Public.Reading as frames
@@ -36,7 +36,7 @@ use Rattle.csi_records.proofs.Readers.{Reads, some_is, Spelled, Always, in_words
 -- ---- fields, as in frames
 
 -- what is taken was read
-taken-some : {A : Type 0} (read : Result (A × List ℕ) Stop) (x : A × List ℕ) → taken read ≡ Some x → read ≡ Ok x
+taken-some : {A : Type 0} (read : Result (A × List ℕ) FieldStop) (x : A × List ℕ) → taken read ≡ Some x → read ≡ Ok x
 taken-some (Ok y) x e = ap Ok (same_Some y x e)
 taken-some (Err stop) x e = absurd cc
 

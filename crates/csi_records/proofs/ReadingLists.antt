@@ -1,10 +1,10 @@
 -- Reading items one after another, as a loop does.
 use Rattle.std.proofs.Common.{◌≡◌, ℕ, suc, ◌-◌, ◌+◌, ◌≤◌, ◌<◌, List, [], ◌∷◌, ◌++◌, Some, None, Ok, Err, refl, sym, ap, ◌∙◌, append_assoc, arith}
 use Rattle.std.specs.Prelude.{Option, Result, IsErrOf}
-use Rattle.csi_records.specs.declared.fault.Stop.{Stop}
+use Rattle.csi_records.specs.declared.fault.ValueStop.{ValueStop}
 use Rattle.std.proofs.lemmas.List.{append-nil}
 use Rattle.csi_frames.specs.declared.fault.FaultKind.TheVariants.{BadCount}
-use Rattle.csi_frames.specs.declared.fields.Stop as frames
+use Rattle.csi_frames.specs.declared.fields.FieldStop as frames
 use Rattle.csi_frames.specs.Public.Grammar.{at_most}
 use Rattle.csi_frames.specs.Public.Reading.{byte_at}
 use Rattle.csi_records.specs.Private.Reading.{Reader, go_on, give, taken, read_items, read_counted, read_count}
@@ -49,12 +49,12 @@ is_done {A} read front count i bytes total le so_far =
 pub counted-as : {A : Type 0} (read : Reader A) (most count : ℕ) (bytes after : List ℕ) (total : Option (List A × List ℕ)) → byte_at (at_most most) BadCount bytes ≡ Ok (count, after) → read_items read count after ≡ total
     → read_counted most read bytes ≡ total
 unfolding read_counted read_count
-counted-as read most count bytes after total counted is = ap (λ (r : Result (ℕ × List ℕ) frames.Stop). go_on (taken r) (read_items read)) counted ∙ is
+counted-as read most count bytes after total counted is = ap (λ (r : Result (ℕ × List ℕ) frames.FieldStop). go_on (taken r) (read_items read)) counted ∙ is
 
 -- an error that a `?` hands on is the one that was answered
-abbrev pub failed : {Y : Type 0} → Stop → Result Y Stop
+abbrev pub failed : {Y : Type 0} → ValueStop → Result Y ValueStop
 failed stop = Err stop
 
 -- an error that is handed on is the one that was answered, whichever value the result would have
-pub same_error : {X Y : Type 0} (result : Result X Stop) (made was stop : Stop) → result ≡ Err made → made ≡ was → IsErrOf result stop → IsErrOf (failed {Y = Y} was) stop
-same_error {X} {Y} result made was stop p q is = let e : was ≡ stop = cc in ap (λ (s : Stop). failed {Y = Y} s) e
+pub same_error : {X Y : Type 0} (result : Result X ValueStop) (made was stop : ValueStop) → result ≡ Err made → made ≡ was → IsErrOf result stop → IsErrOf (failed {Y = Y} was) stop
+same_error {X} {Y} result made was stop p q is = let e : was ≡ stop = cc in ap (λ (s : ValueStop). failed {Y = Y} s) e

@@ -7,7 +7,7 @@ ghost use Rattle.csi_records.specs.Public.Spelling.{node_head};
 ghost use Rattle.csi_records.specs.Public.Records.{Head, IsHead};
 ghost use Rattle.csi_records.specs.Private.Reading.{read_node_head, read_whole};
 
-use crate::fault::Stop;
+use crate::fault::ValueStop;
 use crate::fields::{session, tag};
 use crate::items::list;
 use crate::part_value::value_of;
@@ -46,7 +46,7 @@ impl Row for NodeRow {
         alloc: Global,
         version: RecordVersion,
         id: VolumeId,
-    ) -> Result<NodeRow, Stop> {
+    ) -> Result<NodeRow, ValueStop> {
         let staged = staged(fields, alloc, version)?;
         let targets = list(fields, alloc, version, 16)?;
         let KeptCall {
@@ -82,9 +82,9 @@ pub(crate) struct NodeHead {
 
 // What the head tells of which this is the whole value, in this version.
 #[tactic(auto, unfolding(crate::specs::Private::Reading::read_whole, crate::specs::Private::Reading::read_node_head, crate::specs::Private::Reading::read_text))]
-fn head_in(alloc: Global, version: RecordVersion, value: &[u8]) -> Result<NodeHead, Stop>
+fn head_in(alloc: Global, version: RecordVersion, value: &[u8]) -> Result<NodeHead, ValueStop>
     ensures read { IfOk result (λ head. read_whole version (read_node_head version) value.now ≡ Some (record { own = head.id; session = head.session })) }
-    ensures bad { IsErrOf result Stop.Bad → read_whole version (read_node_head version) value.now ≡ None }
+    ensures bad { IsErrOf result ValueStop.Bad → read_whole version (read_node_head version) value.now ≡ None }
     ensures bytes { AreBytes value.now }
 {
     let mut fields = Fields { bytes: value };
@@ -95,19 +95,19 @@ fn head_in(alloc: Global, version: RecordVersion, value: &[u8]) -> Result<NodeHe
     if fields.bytes.is_empty() {
         Ok(NodeHead { id, session })
     } else {
-        Err(Stop::Bad)
+        Err(ValueStop::Bad)
     }
 }
 
 /// What this part, a head of this version, tells.
-pub(crate) fn head_of(alloc: Global, version: RecordVersion, part: &Part) -> Result<NodeHead, Stop>
+pub(crate) fn head_of(alloc: Global, version: RecordVersion, part: &Part) -> Result<NodeHead, ValueStop>
     ensures head { IfOk result (λ head. IsHead IsNodeId version (record { own = head.id; session = head.session })
         × (node_head version head.id head.session ≡ stored_in part.now)) }
-    ensures bad { IsErrOf result Stop.Bad → (head : Head (List ℕ)) → IsHead IsNodeId version head →
+    ensures bad { IsErrOf result ValueStop.Bad → (head : Head (List ℕ)) → IsHead IsNodeId version head →
         node_head version head.own head.session ≡ stored_in part.now → ⊥ }
 {
     if part.key != 0 {
-        return Err(Stop::Bad);
+        return Err(ValueStop::Bad);
     }
     head_in(alloc, version, value_of(part))
 }

@@ -10,7 +10,7 @@ ghost use Rattle.csi_records.specs.Public.OrchestratorRows.{IsNodeEntry};
 ghost use Rattle.csi_records.specs.Private.Reading.{read_counted};
 ghost use Rattle.csi_records.specs.Private.OrchestratorReading.{read_node_entry};
 
-use crate::fault::Stop;
+use crate::fault::ValueStop;
 use crate::items::{Item, list, put_list};
 use crate::known::put_known;
 use crate::orchestrator_fields::known;
@@ -36,7 +36,7 @@ impl Item for TargetEntry {
         fields: &mut Fields<'_>,
         alloc: Global,
         _version: RecordVersion,
-    ) -> Result<TargetEntry, Stop> {
+    ) -> Result<TargetEntry, ValueStop> {
         let target = Target::try_new(alloc, fields.text(1, Target::MAX_LEN)?)?;
         let published = known(fields)?;
         Ok(TargetEntry { target, published })
@@ -54,9 +54,9 @@ fn node_entry(
     fields: &mut Fields<'_>,
     alloc: Global,
     version: RecordVersion,
-) -> Result<NodeEntry, Stop>
+) -> Result<NodeEntry, ValueStop>
     ensures read { IfOk result (λ entry. read_node_entry version fields.old.bytes.now ≡ Some (node_entry_shown entry, fields.new.bytes.now)) }
-    ensures bad { IsErrOf result Stop.Bad → read_node_entry version fields.old.bytes.now ≡ None }
+    ensures bad { IsErrOf result ValueStop.Bad → read_node_entry version fields.old.bytes.now ≡ None }
 {
     let node = NodeId::try_new(alloc, fields.text(1, NodeId::MAX_LEN)?)?;
     let capability = Capability::read(fields, alloc, version)?;
@@ -80,10 +80,10 @@ pub(crate) fn node_entries(
     fields: &mut Fields<'_>,
     alloc: Global,
     version: RecordVersion,
-) -> Result<Vec<NodeEntry>, Stop>
+) -> Result<Vec<NodeEntry>, ValueStop>
     ensures read { IfOk result (λ entries. read_counted 64 (read_node_entry version) fields.old.bytes.now
         ≡ Some (map node_entry_shown entries.items, fields.new.bytes.now)) }
-    ensures bad { IsErrOf result Stop.Bad → read_counted 64 (read_node_entry version) fields.old.bytes.now ≡ None }
+    ensures bad { IsErrOf result ValueStop.Bad → read_counted 64 (read_node_entry version) fields.old.bytes.now ≡ None }
 {
     let count = fields.byte(64, FaultKind::BadCount)?;
     let mut list = Vec::with_capacity(alloc, count as usize)?;

@@ -42,7 +42,7 @@ impl From<RecordStop> for KeepFault {
 
 /// Why a value wasn't read.
 #[derive(Clone, Copy)]
-pub(crate) enum Stop {
+pub(crate) enum ValueStop {
     /// Its bytes are none that spell one.
     Bad,
     /// An allocation was refused.
@@ -50,47 +50,47 @@ pub(crate) enum Stop {
 }
 
 // Bytes that are no field of frames are none of records.
-impl From<csi_frames::Stop> for Stop {
+impl From<csi_frames::FieldStop> for ValueStop {
     ghost use Rattle.std.specs.Prelude.{◌≡◌};
-    ghost use Rattle.csi_records.specs.declared.fault.Stop.TheVariants.{Bad as NotRead};
+    ghost use Rattle.csi_records.specs.declared.fault.ValueStop.TheVariants.{Bad as NotRead};
 
     ghost from_gives = { λ _ stop. stop ≡ NotRead };
 
-    fn from(_stop: csi_frames::Stop) -> Stop {
-        Stop::Bad
+    fn from(_stop: csi_frames::FieldStop) -> ValueStop {
+        ValueStop::Bad
     }
 }
 
 // A text is within its limits when it was read, so that a copy of it can only want memory.
-impl From<TextFault> for Stop {
+impl From<TextFault> for ValueStop {
     ghost use Rattle.std.specs.Prelude.{◌≡◌};
-    ghost use Rattle.csi_records.specs.declared.fault.Stop.TheVariants.{NoMemory as Refused};
+    ghost use Rattle.csi_records.specs.declared.fault.ValueStop.TheVariants.{NoMemory as Refused};
 
     ghost from_gives = { λ _ stop. stop ≡ Refused };
 
-    fn from(_fault: TextFault) -> Stop {
-        Stop::NoMemory
+    fn from(_fault: TextFault) -> ValueStop {
+        ValueStop::NoMemory
     }
 }
 
-impl From<AllocError> for Stop {
+impl From<AllocError> for ValueStop {
     ghost use Rattle.std.specs.Prelude.{◌≡◌};
-    ghost use Rattle.csi_records.specs.declared.fault.Stop.TheVariants.{NoMemory as Refused};
+    ghost use Rattle.csi_records.specs.declared.fault.ValueStop.TheVariants.{NoMemory as Refused};
 
     ghost from_gives = { λ _ stop. stop ≡ Refused };
 
-    fn from(_refused: AllocError) -> Stop {
-        Stop::NoMemory
+    fn from(_refused: AllocError) -> ValueStop {
+        ValueStop::NoMemory
     }
 }
 
-impl<T: Drop> From<AllocFailed<T>> for Stop {
+impl<T: Drop> From<AllocFailed<T>> for ValueStop {
     ghost use Rattle.std.specs.Prelude.{◌≡◌};
-    ghost use Rattle.csi_records.specs.declared.fault.Stop.TheVariants.{NoMemory as Refused};
+    ghost use Rattle.csi_records.specs.declared.fault.ValueStop.TheVariants.{NoMemory as Refused};
 
     ghost from_gives = { λ _ stop. stop ≡ Refused };
 
-    fn from(_refused: AllocFailed<T>) -> Stop {
-        Stop::NoMemory
+    fn from(_refused: AllocFailed<T>) -> ValueStop {
+        ValueStop::NoMemory
     }
 }

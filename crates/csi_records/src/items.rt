@@ -5,7 +5,7 @@ ghost use Rattle.csi_records.specs.declared.version.RecordVersion.{RecordVersion
 ghost use Rattle.csi_records.specs.Private.Reading.{Reader, read_counted};
 ghost use Rattle.csi_records.specs.Public.Spelling.{list_spelling, present};
 
-use crate::fault::Stop;
+use crate::fault::ValueStop;
 use crate::version::RecordVersion;
 use csi_controller::NodeHolding;
 use csi_frames::{
@@ -27,9 +27,9 @@ pub(crate) trait Item: Drop {
     /// One is within its limits.
     ghost is_item: { RecordVersion → Self → Type 0 };
 
-    fn read(fields: &mut Fields<'_>, alloc: Global, version: RecordVersion) -> Result<Self, Stop>
+    fn read(fields: &mut Fields<'_>, alloc: Global, version: RecordVersion) -> Result<Self, ValueStop>
         ensures read { IfOk result (λ item. item_in version fields.old.bytes.now ≡ Some (item, fields.new.bytes.now)) }
-        ensures bad { IsErrOf result Stop.Bad → item_in version fields.old.bytes.now ≡ None };
+        ensures bad { IsErrOf result ValueStop.Bad → item_in version fields.old.bytes.now ≡ None };
 
     fn put(&self, out: &mut Vec<u8>) -> Result<(), NoMemory>
         ensures written { OnOk result (out.new.items ≡ out.old.items ++ item_bytes self.now) }
@@ -52,7 +52,7 @@ impl Item for Capability {
         fields: &mut Fields<'_>,
         alloc: Global,
         version: RecordVersion,
-    ) -> Result<Capability, Stop> {
+    ) -> Result<Capability, ValueStop> {
         let lent = capability_at(fields, version.modes())?;
         Ok(lent.to_capability(alloc)?)
     }
@@ -78,7 +78,7 @@ impl Item for NodeHolding {
         fields: &mut Fields<'_>,
         alloc: Global,
         version: RecordVersion,
-    ) -> Result<NodeHolding, Stop> {
+    ) -> Result<NodeHolding, ValueStop> {
         let node = NodeId::try_new(alloc, fields.text(1, NodeId::MAX_LEN)?)?;
         let capability = Capability::read(fields, alloc, version)?;
         let readonly = fields.flag()?;
@@ -112,7 +112,7 @@ impl Item for NodeTarget {
         fields: &mut Fields<'_>,
         alloc: Global,
         _version: RecordVersion,
-    ) -> Result<NodeTarget, Stop> {
+    ) -> Result<NodeTarget, ValueStop> {
         let target = Target::try_new(alloc, fields.text(1, Target::MAX_LEN)?)?;
         let readonly = fields.flag()?;
         Ok(NodeTarget { target, readonly })
@@ -131,10 +131,10 @@ pub(crate) fn list<T: Item>(
     alloc: Global,
     version: RecordVersion,
     most: u8,
-) -> Result<Vec<T>, Stop>
+) -> Result<Vec<T>, ValueStop>
     ensures read { IfOk result (λ list. read_counted most (T.item_in version) fields.old.bytes.now ≡ Some (list.items, fields.new.bytes.now)) }
     ensures within { IfOk result (λ list. length list.items ≤ most) }
-    ensures bad { IsErrOf result Stop.Bad → read_counted most (T.item_in version) fields.old.bytes.now ≡ None }
+    ensures bad { IsErrOf result ValueStop.Bad → read_counted most (T.item_in version) fields.old.bytes.now ≡ None }
 {
     let count = fields.byte(most, FaultKind::BadCount)?;
     let mut list = Vec::with_capacity(alloc, count as usize)?;

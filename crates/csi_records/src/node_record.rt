@@ -8,7 +8,7 @@ ghost use Rattle.csi_records.specs.Public.Records.{node_layout, node_record_of, 
 ghost use Rattle.csi_records.specs.Public.Places.{ReadsParts};
 
 use crate::answered::{NodeHead, head_of};
-use crate::fault::{RecordStop, Stop};
+use crate::fault::{RecordStop, ValueStop};
 use crate::plugin_rows::{ReadRows, rows_of};
 use crate::version::RecordVersion;
 use csi_fence::RecordFault;
@@ -54,8 +54,8 @@ pub(crate) fn node_record(
     };
     let head = match head_of(alloc, version, first) {
         Ok(head) => head,
-        Err(Stop::Bad) => return Err(RecordStop::BadRecord(0)),
-        Err(Stop::NoMemory) => return Err(RecordStop::NoMemory),
+        Err(ValueStop::Bad) => return Err(RecordStop::BadRecord(0)),
+        Err(ValueStop::NoMemory) => return Err(RecordStop::NoMemory),
     };
     if !is_wanted(wanted, &head.id) {
         return Err(RecordStop::BadRecord(0));

@@ -2,7 +2,7 @@
 ghost use Rattle.std.specs.Prelude.{◌≡◌, Some, None, IfOk, IsErrOf, OnErr};
 ghost use Rattle.csi_records.specs.Private.OrchestratorReading.{known_from, read_known, read_id_if, read_arguments, read_usage, read_stop, read_goal};
 
-use crate::fault::Stop;
+use crate::fault::ValueStop;
 use crate::items::{Item, list};
 use crate::version::RecordVersion;
 use csi_frames::Fields;
@@ -24,19 +24,19 @@ fn known_of(byte: u8) -> Option<Known>
 
 /// What is known.
 #[tactic(auto, unfolding(crate::specs::Private::OrchestratorReading::read_known, crate::specs::Private::Reading::read_code, crate::specs::Private::Reading::read_byte))]
-pub(crate) fn known(fields: &mut Fields<'_>) -> Result<Known, Stop>
+pub(crate) fn known(fields: &mut Fields<'_>) -> Result<Known, ValueStop>
     ensures read { IfOk result (λ known. read_known fields.old.bytes.now ≡ Some (known, fields.new.bytes.now)) }
     ensures bad { OnErr result (read_known fields.old.bytes.now ≡ None) }
 {
     match known_of(fields.any_byte()?) {
         Some(known) => Ok(known),
-        None => Err(Stop::Bad),
+        None => Err(ValueStop::Bad),
     }
 }
 
 /// An id, if there is one.
 #[tactic(auto, unfolding(crate::specs::Private::OrchestratorReading::read_id_if, crate::specs::Private::Reading::read_flag, crate::specs::Private::Reading::read_word))]
-pub(crate) fn id_if(fields: &mut Fields<'_>) -> Result<Option<VolumeId>, Stop>
+pub(crate) fn id_if(fields: &mut Fields<'_>) -> Result<Option<VolumeId>, ValueStop>
     ensures read { IfOk result (λ id. read_id_if fields.old.bytes.now ≡ Some (id, fields.new.bytes.now)) }
     ensures bad { OnErr result (read_id_if fields.old.bytes.now ≡ None) }
 {
@@ -45,7 +45,7 @@ pub(crate) fn id_if(fields: &mut Fields<'_>) -> Result<Option<VolumeId>, Stop>
     }
     match VolumeId::try_new(fields.word()?) {
         Some(id) => Ok(Some(id)),
-        None => Err(Stop::Bad),
+        None => Err(ValueStop::Bad),
     }
 }
 
@@ -55,9 +55,9 @@ pub(crate) fn arguments(
     fields: &mut Fields<'_>,
     alloc: Global,
     version: RecordVersion,
-) -> Result<Arguments, Stop>
+) -> Result<Arguments, ValueStop>
     ensures read { IfOk result (λ arguments. read_arguments version fields.old.bytes.now ≡ Some (arguments, fields.new.bytes.now)) }
-    ensures bad { IsErrOf result Stop.Bad → read_arguments version fields.old.bytes.now ≡ None }
+    ensures bad { IsErrOf result ValueStop.Bad → read_arguments version fields.old.bytes.now ≡ None }
 {
     let required = fields.word()?;
     let limit = fields.word()?;
@@ -71,9 +71,9 @@ pub(crate) fn arguments(
 
 // Where and how a volume is to be used.
 #[tactic(auto, unfolding(crate::specs::Private::OrchestratorReading::read_usage, crate::specs::Private::Reading::read_text, crate::specs::Private::Reading::read_flag))]
-fn usage(fields: &mut Fields<'_>, alloc: Global, version: RecordVersion) -> Result<Usage, Stop>
+fn usage(fields: &mut Fields<'_>, alloc: Global, version: RecordVersion) -> Result<Usage, ValueStop>
     ensures read { IfOk result (λ usage. read_usage version fields.old.bytes.now ≡ Some (usage, fields.new.bytes.now)) }
-    ensures bad { IsErrOf result Stop.Bad → read_usage version fields.old.bytes.now ≡ None }
+    ensures bad { IsErrOf result ValueStop.Bad → read_usage version fields.old.bytes.now ≡ None }
 {
     let node = NodeId::try_new(alloc, fields.text(1, NodeId::MAX_LEN)?)?;
     let target = Target::try_new(alloc, fields.text(1, Target::MAX_LEN)?)?;
@@ -89,9 +89,9 @@ fn usage(fields: &mut Fields<'_>, alloc: Global, version: RecordVersion) -> Resu
 
 // Where a volume is to be used no longer, as a goal.
 #[tactic(auto, unfolding(crate::specs::Private::OrchestratorReading::read_stop, crate::specs::Private::Reading::read_text))]
-fn stop(fields: &mut Fields<'_>, alloc: Global) -> Result<Option<Goal>, Stop>
+fn stop(fields: &mut Fields<'_>, alloc: Global) -> Result<Option<Goal>, ValueStop>
     ensures read { IfOk result (λ goal. read_stop fields.old.bytes.now ≡ Some (goal, fields.new.bytes.now)) }
-    ensures bad { IsErrOf result Stop.Bad → read_stop fields.old.bytes.now ≡ None }
+    ensures bad { IsErrOf result ValueStop.Bad → read_stop fields.old.bytes.now ≡ None }
 {
     let node = NodeId::try_new(alloc, fields.text(1, NodeId::MAX_LEN)?)?;
     let target = Target::try_new(alloc, fields.text(1, Target::MAX_LEN)?)?;
@@ -104,9 +104,9 @@ pub(crate) fn goal(
     fields: &mut Fields<'_>,
     alloc: Global,
     version: RecordVersion,
-) -> Result<Option<Goal>, Stop>
+) -> Result<Option<Goal>, ValueStop>
     ensures read { IfOk result (λ goal. read_goal version fields.old.bytes.now ≡ Some (goal, fields.new.bytes.now)) }
-    ensures bad { IsErrOf result Stop.Bad → read_goal version fields.old.bytes.now ≡ None }
+    ensures bad { IsErrOf result ValueStop.Bad → read_goal version fields.old.bytes.now ≡ None }
 {
     match fields.any_byte()? {
         0 => Ok(None),
@@ -117,6 +117,6 @@ pub(crate) fn goal(
         }
         3 => stop(fields, alloc),
         4 => Ok(Some(Goal::Delete)),
-        _ => Err(Stop::Bad),
+        _ => Err(ValueStop::Bad),
     }
 }

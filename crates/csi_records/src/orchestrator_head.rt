@@ -7,7 +7,7 @@ ghost use Rattle.csi_records.specs.Public.OrchestratorRows.{OrchestratorHeadShow
 ghost use Rattle.csi_records.specs.Private.Reading.{read_whole};
 ghost use Rattle.csi_records.specs.Private.OrchestratorReading.{read_orchestrator_head};
 
-use crate::fault::Stop;
+use crate::fault::ValueStop;
 use crate::fields::tag;
 use crate::items::{Item, list};
 use crate::part_value::value_of;
@@ -33,7 +33,7 @@ impl Item for NodeId {
         fields: &mut Fields<'_>,
         alloc: Global,
         _version: RecordVersion,
-    ) -> Result<NodeId, Stop> {
+    ) -> Result<NodeId, ValueStop> {
         let node = NodeId::try_new(alloc, fields.text(1, NodeId::MAX_LEN)?)?;
         Ok(node)
     }
@@ -52,16 +52,16 @@ pub(crate) struct OrchestratorHead {
 
 // What the head tells of which this is the whole value, in this version.
 #[tactic(auto, unfolding(crate::specs::Private::Reading::read_whole, crate::specs::Private::OrchestratorReading::read_orchestrator_head, crate::specs::Private::Reading::read_word))]
-fn head_in(alloc: Global, version: RecordVersion, value: &[u8]) -> Result<OrchestratorHead, Stop>
+fn head_in(alloc: Global, version: RecordVersion, value: &[u8]) -> Result<OrchestratorHead, ValueStop>
     ensures read { IfOk result (λ head. read_whole version (read_orchestrator_head version) value.now
         ≡ Some (record { session = head.session; nodes = head.nodes.items })) }
-    ensures bad { IsErrOf result Stop.Bad → read_whole version (read_orchestrator_head version) value.now ≡ None }
+    ensures bad { IsErrOf result ValueStop.Bad → read_whole version (read_orchestrator_head version) value.now ≡ None }
     ensures bytes { AreBytes value.now }
 {
     let mut fields = Fields { bytes: value };
     tag(&mut fields, version.number())?;
     if !version.has_session() {
-        return Err(Stop::Bad);
+        return Err(ValueStop::Bad);
     }
     tag(&mut fields, 2)?;
     let session = fields.word()?;
@@ -69,7 +69,7 @@ fn head_in(alloc: Global, version: RecordVersion, value: &[u8]) -> Result<Orches
     if fields.bytes.is_empty() {
         Ok(OrchestratorHead { session, nodes })
     } else {
-        Err(Stop::Bad)
+        Err(ValueStop::Bad)
     }
 }
 
@@ -78,14 +78,14 @@ pub(crate) fn orchestrator_head_of(
     alloc: Global,
     version: RecordVersion,
     part: &Part,
-) -> Result<OrchestratorHead, Stop>
+) -> Result<OrchestratorHead, ValueStop>
     ensures head { IfOk result (λ head. IsOrchestratorHead version (record { session = head.session; nodes = head.nodes.items })
         × (orchestrator_head version head.session head.nodes.items ≡ stored_in part.now)) }
-    ensures bad { IsErrOf result Stop.Bad → (head : OrchestratorHeadShown) → IsOrchestratorHead version head →
+    ensures bad { IsErrOf result ValueStop.Bad → (head : OrchestratorHeadShown) → IsOrchestratorHead version head →
         orchestrator_head version head.session head.nodes ≡ stored_in part.now → ⊥ }
 {
     if part.key != 0 {
-        return Err(Stop::Bad);
+        return Err(ValueStop::Bad);
     }
     head_in(alloc, version, value_of(part))
 }

@@ -4,7 +4,7 @@ ghost use Rattle.csi_records.specs.Public.OrchestratorRecords.{orchestrator_layo
 ghost use Rattle.csi_records.specs.Public.Records.{IsRecordOf};
 ghost use Rattle.csi_records.specs.Public.Places.{ReadsParts};
 
-use crate::fault::{RecordStop, Stop};
+use crate::fault::{RecordStop, ValueStop};
 use crate::orchestrator_head::orchestrator_head_of;
 use crate::orchestrator_rows::orchestrator_rows;
 use crate::plugin_rows::ReadRows;
@@ -26,8 +26,8 @@ pub(crate) fn orchestrator_record(
     };
     let head = match orchestrator_head_of(alloc, version, first) {
         Ok(head) => head,
-        Err(Stop::Bad) => return Err(RecordStop::BadRecord(0)),
-        Err(Stop::NoMemory) => return Err(RecordStop::NoMemory),
+        Err(ValueStop::Bad) => return Err(RecordStop::BadRecord(0)),
+        Err(ValueStop::NoMemory) => return Err(RecordStop::NoMemory),
     };
     let ReadRows { rows, all } = orchestrator_rows(alloc, version, others)?;
     let place = rows.len() as u64 + 1;

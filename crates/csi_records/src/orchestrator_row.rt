@@ -6,7 +6,7 @@ ghost use Rattle.csi_records.specs.Private.Reading.{read_whole};
 ghost use Rattle.csi_records.specs.Private.OrchestratorReading.{read_orchestrator_row};
 
 use crate::entries::node_entries;
-use crate::fault::Stop;
+use crate::fault::ValueStop;
 use crate::fields::tag;
 use crate::orchestrator_fields::{arguments, goal, id_if, known};
 use crate::version::RecordVersion;
@@ -17,9 +17,9 @@ use std::alloc::Global;
 
 // A row's fields, behind the version.
 #[tactic(auto, unfolding(crate::specs::Private::OrchestratorReading::read_orchestrator_row, crate::specs::Private::Reading::read_text, crate::specs::Private::Reading::read_count))]
-fn row(fields: &mut Fields<'_>, alloc: Global, version: RecordVersion) -> Result<Row, Stop>
+fn row(fields: &mut Fields<'_>, alloc: Global, version: RecordVersion) -> Result<Row, ValueStop>
     ensures read { IfOk result (λ row. read_orchestrator_row version fields.old.bytes.now ≡ Some (row_shown row, fields.new.bytes.now)) }
-    ensures bad { IsErrOf result Stop.Bad → read_orchestrator_row version fields.old.bytes.now ≡ None }
+    ensures bad { IsErrOf result ValueStop.Bad → read_orchestrator_row version fields.old.bytes.now ≡ None }
 {
     let name = Name::try_new(alloc, fields.text(1, Name::MAX_LEN)?)?;
     let arguments = arguments(fields, alloc, version)?;
@@ -46,9 +46,9 @@ pub(crate) fn orchestrator_row_in(
     alloc: Global,
     version: RecordVersion,
     value: &[u8],
-) -> Result<Row, Stop>
+) -> Result<Row, ValueStop>
     ensures read { IfOk result (λ row. read_whole version (read_orchestrator_row version) value.now ≡ Some (row_shown row)) }
-    ensures bad { IsErrOf result Stop.Bad → read_whole version (read_orchestrator_row version) value.now ≡ None }
+    ensures bad { IsErrOf result ValueStop.Bad → read_whole version (read_orchestrator_row version) value.now ≡ None }
     ensures bytes { AreBytes value.now }
 {
     let mut fields = Fields { bytes: value };
@@ -57,6 +57,6 @@ pub(crate) fn orchestrator_row_in(
     if fields.bytes.is_empty() {
         Ok(row)
     } else {
-        Err(Stop::Bad)
+        Err(ValueStop::Bad)
     }
 }

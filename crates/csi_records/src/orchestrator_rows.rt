@@ -6,7 +6,7 @@ ghost use Rattle.csi_records.specs.Public.OrchestratorSpelling.{KeyedRow, orches
 ghost use Rattle.csi_records.specs.Public.OrchestratorRecords.{IsKeyedRow};
 ghost use Rattle.csi_records.specs.Private.Stopping.{IsRowUnder, AreReadInOrder};
 
-use crate::fault::Stop;
+use crate::fault::ValueStop;
 use crate::orchestrator_row::orchestrator_row_in;
 use crate::part_value::value_of;
 use crate::plugin_rows::ReadRows;
@@ -17,14 +17,14 @@ use csi_types::NoMemory;
 use std::alloc::Global;
 
 // The row that this part spells in this version, where it stands under its place, counted from 1.
-fn row_at(alloc: Global, version: RecordVersion, place: u64, part: &Part) -> Result<Row, Stop>
+fn row_at(alloc: Global, version: RecordVersion, place: u64, part: &Part) -> Result<Row, ValueStop>
     ensures row { IfOk result (λ row. IsKeyedRow version (record { key = place; row = row_shown row })
         × (orchestrator_part version (record { key = place; row = row_shown row }) ≡ stored_in part.now)) }
-    ensures bad { IsErrOf result Stop.Bad → (row : KeyedRow) → IsRowUnder version place row →
+    ensures bad { IsErrOf result ValueStop.Bad → (row : KeyedRow) → IsRowUnder version place row →
         orchestrator_part version row ≡ stored_in part.now → ⊥ }
 {
     if part.key != place {
-        return Err(Stop::Bad);
+        return Err(ValueStop::Bad);
     }
     orchestrator_row_in(alloc, version, value_of(part))
 }
@@ -42,8 +42,8 @@ pub(crate) fn orchestrator_rows(
         let place = rows.len() as u64 + 1;
         match row_at(alloc, version, place, part) {
             Ok(row) => rows.push(row)?,
-            Err(Stop::Bad) => return Ok(ReadRows { rows, all: false }),
-            Err(Stop::NoMemory) => return Err(NoMemory),
+            Err(ValueStop::Bad) => return Ok(ReadRows { rows, all: false }),
+            Err(ValueStop::NoMemory) => return Err(NoMemory),
         }
     }
     Ok(ReadRows { rows, all: true })

@@ -9,7 +9,7 @@ ghost use Rattle.csi_records.specs.Private.Reading.{Reader, IsReadWhole, read_wh
 ghost use Rattle.csi_records.specs.Public.Spelling.{present};
 ghost use Rattle.csi_records.specs.Private.Stopping.{AreRead};
 
-use crate::fault::Stop;
+use crate::fault::ValueStop;
 use crate::fields::tag;
 use crate::part_value::value_of;
 use crate::version::RecordVersion;
@@ -43,9 +43,9 @@ pub(crate) trait Row: Drop {
         alloc: Global,
         version: RecordVersion,
         id: VolumeId,
-    ) -> Result<Self, Stop>
+    ) -> Result<Self, ValueStop>
         ensures read { IfOk result (λ row. row_in version id fields.old.bytes.now ≡ Some (shown row, fields.new.bytes.now)) }
-        ensures bad { IsErrOf result Stop.Bad → row_in version id fields.old.bytes.now ≡ None };
+        ensures bad { IsErrOf result ValueStop.Bad → row_in version id fields.old.bytes.now ≡ None };
 
     /// Puts the row's part at the end.
     fn push(&self, alloc: Global, parts: &mut Vec<Part>) -> Result<(), NoMemory>
@@ -65,9 +65,9 @@ fn row_in<T: Row>(
     version: RecordVersion,
     id: VolumeId,
     value: &[u8],
-) -> Result<T, Stop>
+) -> Result<T, ValueStop>
     ensures read { IfOk result (λ row. read_whole version (T.row_in version id) value.now ≡ Some (T.shown row)) }
-    ensures bad { IsErrOf result Stop.Bad → read_whole version (T.row_in version id) value.now ≡ None }
+    ensures bad { IsErrOf result ValueStop.Bad → read_whole version (T.row_in version id) value.now ≡ None }
     ensures bytes { AreBytes value.now }
     ensures id { IsVolumeId id }
 {
@@ -78,18 +78,18 @@ fn row_in<T: Row>(
     if fields.bytes.is_empty() {
         Ok(row)
     } else {
-        Err(Stop::Bad)
+        Err(ValueStop::Bad)
     }
 }
 
 // The row that this part spells, in this version.
-fn row_of<T: Row>(alloc: Global, version: RecordVersion, part: &Part) -> Result<T, Stop>
+fn row_of<T: Row>(alloc: Global, version: RecordVersion, part: &Part) -> Result<T, ValueStop>
     ensures row { IfOk result (λ row. T.is_row version (T.shown row) × (T.row_part version (T.shown row) ≡ stored_in part.now)) }
-    ensures bad { IsErrOf result Stop.Bad → (row : T.Shown) → T.is_row version row → T.row_part version row ≡ stored_in part.now → ⊥ }
+    ensures bad { IsErrOf result ValueStop.Bad → (row : T.Shown) → T.is_row version row → T.row_part version row ≡ stored_in part.now → ⊥ }
 {
     T::reading_law();
     let Some(id) = VolumeId::try_new(part.key) else {
-        return Err(Stop::Bad);
+        return Err(ValueStop::Bad);
     };
     row_in(alloc, version, id, value_of(part))
 }
@@ -113,8 +113,8 @@ pub(crate) fn rows_of<T: Row>(
     for part in parts {
         match row_of(alloc, version, part) {
             Ok(row) => rows.push(row)?,
-            Err(Stop::Bad) => return Ok(ReadRows { rows, all: false }),
-            Err(Stop::NoMemory) => return Err(NoMemory),
+            Err(ValueStop::Bad) => return Ok(ReadRows { rows, all: false }),
+            Err(ValueStop::NoMemory) => return Err(NoMemory),
         }
     }
     Ok(ReadRows { rows, all: true })

@@ -10,7 +10,7 @@ ghost use Rattle.csi_records.specs.Public.Places.{ReadsParts, ReadsStored, Reads
 ghost use Rattle.csi_records.specs.Public.Writing.{CanBeWritten};
 
 use crate::controller_record::controller_record;
-use crate::fault::{RecordStop, Stop};
+use crate::fault::{RecordStop, ValueStop};
 use crate::node_record::node_record;
 use crate::orchestrator_parts::keyed_parts;
 use crate::orchestrator_record::orchestrator_record;
@@ -207,8 +207,8 @@ pub fn read_record<T: Record>(alloc: Global, bytes: &[u8]) -> Result<Stored<T>, 
         all,
     } = match split(alloc, bytes) {
         Ok(read) => read,
-        Err(Stop::Bad) => return Err(RecordStop::BadRecord(0)),
-        Err(Stop::NoMemory) => return Err(RecordStop::NoMemory),
+        Err(ValueStop::Bad) => return Err(RecordStop::BadRecord(0)),
+        Err(ValueStop::NoMemory) => return Err(RecordStop::NoMemory),
     };
     let place = parts.len() as u64;
     match T::in_version(alloc, version, &parts) {

@@ -7,7 +7,7 @@ ghost use Rattle.csi_records.specs.Public.Spelling.{controller_head};
 ghost use Rattle.csi_records.specs.Public.Records.{Head, IsHead};
 ghost use Rattle.csi_records.specs.Private.Reading.{read_controller_head, read_whole};
 
-use crate::fault::Stop;
+use crate::fault::ValueStop;
 use crate::fields::{live_of, session, tag};
 use crate::items::list;
 use crate::part_value::value_of;
@@ -45,9 +45,9 @@ impl Row for ControllerRow {
         alloc: Global,
         version: RecordVersion,
         id: VolumeId,
-    ) -> Result<ControllerRow, Stop> {
+    ) -> Result<ControllerRow, ValueStop> {
         let Some(live) = live_of(fields.any_byte()?) else {
-            return Err(Stop::Bad);
+            return Err(ValueStop::Bad);
         };
         let name = Name::try_new(alloc, fields.text(1, Name::MAX_LEN)?)?;
         let capacity = fields.word()?;
@@ -89,7 +89,7 @@ pub(crate) struct ControllerHead {
 
 // What the head tells of which this is the whole value, in this version.
 #[tactic(auto, unfolding(crate::specs::Private::Reading::read_whole, crate::specs::Private::Reading::read_controller_head, crate::specs::Private::Reading::read_word))]
-fn head_in(version: RecordVersion, value: &[u8]) -> Result<ControllerHead, Stop>
+fn head_in(version: RecordVersion, value: &[u8]) -> Result<ControllerHead, ValueStop>
     ensures read { IfOk result (λ head. read_whole version (read_controller_head version) value.now ≡ Some (record {
       own = head.next_id;
       session = head.session;
@@ -105,7 +105,7 @@ fn head_in(version: RecordVersion, value: &[u8]) -> Result<ControllerHead, Stop>
     if fields.bytes.is_empty() {
         Ok(ControllerHead { next_id, session })
     } else {
-        Err(Stop::Bad)
+        Err(ValueStop::Bad)
     }
 }
 

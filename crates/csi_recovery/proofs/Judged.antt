@@ -19,7 +19,7 @@ use Rattle.csi_orchestrator.specs.Public.Restored.{AreRestorable}
 use Rattle.csi_world.specs.Public.Recovered.{GivenNode, recovered_rows, Agree, MayRecover}
 use Rattle.csi_recovery.specs.declared.fault.RecoveryFault.{RecoveryFault}
 use Rattle.csi_recovery.specs.declared.fault.RecoveryFault.TheVariants.{SameNode, NotLater, Disagrees, BadNodes, BadRow, NoMemory}
-use Rattle.csi_recovery.specs.Public.Judged.{IsKeptOf, IsGiven, AreGiven, AreApart, DoAgree, IsLater, AreFit, IsNotFree, IsUnfit, IsRecoveryRefusal}
+use Rattle.csi_recovery.specs.Public.Judged.{IsKeptOf, IsGiven, AreGiven, HaveDistinctNodes, DoAgree, IsLater, AreFit, IsNotFree, IsUnfit, IsRecoveryRefusal}
 use Rattle.csi_recovery.specs.Public.Rebuilding.{AreEarlier}
 use Rattle.csi_recovery.specs.Private.Walks.{passed_on}
 use Rattle.csi_recovery.proofs.Given.{record-among, node-among}
@@ -41,9 +41,9 @@ agree-last state known node all = all node (among-last known node)
 -- ---- stores of one node
 
 -- no record of the first is of the node of the next
-pub apart-more : (given : List NodeParts) (known : List GivenNode) (kept : NodeParts) (node : GivenNode) → AreGiven given known → IsGiven kept node → list_any (λ (k : NodeParts). same_text k.id kept.id) given ≡ false
-    → AreApart known → AreApart (known ++ node ∷ [])
-apart-more given known kept node are own none apart =
+pub distinct-more : (given : List NodeParts) (known : List GivenNode) (kept : NodeParts) (node : GivenNode) → AreGiven given known → IsGiven kept node → list_any (λ (k : NodeParts). same_text k.id kept.id) given ≡ false
+    → HaveDistinctNodes known → HaveDistinctNodes (known ++ node ∷ [])
+distinct-more given known kept node are own none apart =
     two-append (λ (a b : GivenNode). same_text a.id b.id ≡ false) known node apart
     (λ other among.
     let from = record-among given known other are among in
@@ -51,7 +51,7 @@ apart-more given known kept node are own none apart =
     ap (λ (n : List ℕ). same_text n node.id) from.2.id ∙ ap (λ (n : List ℕ). same_text from.0.id n) own.id ∙ missed)
 
 -- of two lists that are joined, each of the first stands so to each of the second
-two-across : (known : List GivenNode) (node other : GivenNode) → AreApart (known ++ node ∷ []) → IsAmong other known → same_text other.id node.id ≡ false
+two-across : (known : List GivenNode) (node other : GivenNode) → HaveDistinctNodes (known ++ node ∷ []) → IsAmong other known → same_text other.id node.id ≡ false
 two-across [] node other apart among = absurd among
 two-across (first ∷ rest) node other apart (inl here) = subst (λ (n : GivenNode). same_text n.id node.id ≡ false) (sym here) (last rest apart.0)
   where
@@ -61,9 +61,9 @@ two-across (first ∷ rest) node other apart (inl here) = subst (λ (n : GivenNo
 two-across (first ∷ rest) node other apart (inr later) = two-across rest node other apart.1 later
 
 -- some record of the first is of it
-pub apart-broken : (given : List NodeParts) (known : List GivenNode) (kept : NodeParts) (node : GivenNode) → AreGiven given known → IsGiven kept node → list_any (λ (k : NodeParts). same_text k.id kept.id) given ≡ true
-    → AreApart (known ++ node ∷ []) → ⊥
-apart-broken given known kept node are own some apart =
+pub distinct-broken : (given : List NodeParts) (known : List GivenNode) (kept : NodeParts) (node : GivenNode) → AreGiven given known → IsGiven kept node → list_any (λ (k : NodeParts). same_text k.id kept.id) given ≡ true
+    → HaveDistinctNodes (known ++ node ∷ []) → ⊥
+distinct-broken given known kept node are own some apart =
     let from = any-then (λ (k : NodeParts). same_text k.id kept.id) given some in
     let there = node-among given known from.0 are from.1 in
     let same : same_text there.0.id node.id ≡ true = ap (λ (n : List ℕ). same_text n node.id) there.2.id ∙ ap (λ (n : List ℕ). same_text from.0.id n) own.id ∙ from.2 in
@@ -110,10 +110,10 @@ from-earlier session kept state given known own is are earlier =
 -- ---- what is unfit
 
 -- the first of a list whose any two are apart are so
-apart-take : (known : List GivenNode) (count : ℕ) → AreApart known → AreApart (take count known)
-apart-take known zero apart = tt
-apart-take [] (suc count) apart = tt
-apart-take (node ∷ nodes) (suc count) apart = (each nodes count apart.0, apart-take nodes count apart.1)
+distinct-take : (known : List GivenNode) (count : ℕ) → HaveDistinctNodes known → HaveDistinctNodes (take count known)
+distinct-take known zero apart = tt
+distinct-take [] (suc count) apart = tt
+distinct-take (node ∷ nodes) (suc count) apart = (each nodes count apart.0, distinct-take nodes count apart.1)
   where
     each : (xs : List GivenNode) (n : ℕ) → AllByRecursion (λ (b : GivenNode). same_text node.id b.id ≡ false) xs → AllByRecursion (λ (b : GivenNode). same_text node.id b.id ≡ false) (take n xs)
     each xs zero all = tt
@@ -129,7 +129,7 @@ among-take (y ∷ ys) (suc count) x (inr later) = inr (among-take ys count x lat
 
 -- stores that are fit aren't unfit
 pub fit-clash : (session : ℕ) (state : ControllerState) (known : List GivenNode) (fault : RecoveryFault) → IsUnfit session state known fault → AreFit session state known → ⊥
-fit-clash session state known (SameNode place) unfit fit = unfit.refused (apart-take known place fit.apart)
+fit-clash session state known (SameNode place) unfit fit = unfit.refused (distinct-take known place fit.apart)
 fit-clash session state known NotLater unfit fit = unfit.1 fit.later
 fit-clash session state known (Disagrees place) unfit fit = unfit.2.refused (λ node among. fit.agree node (among-take known place node among))
 fit-clash session state known BadNodes unfit fit = unfit

@@ -7,7 +7,7 @@ ghost use Rattle.csi_node.specs.Model.Record.{parts};
 ghost use Rattle.csi_node.specs.Public.Record.{AreSoundRows};
 ghost use Rattle.csi_world.specs.Public.Recovered.{GivenNode};
 ghost use Rattle.csi_recovery.specs.Public.Rebuilding.{AreLike, IsUnlike};
-ghost use Rattle.csi_recovery.specs.Public.Judged.{IsKeptOf, AreGiven, AreApart, IsFirst, AreFit, IsUnfit};
+ghost use Rattle.csi_recovery.specs.Public.Judged.{IsKeptOf, AreGiven, HaveDistinctNodes, IsFirst, AreFit, IsUnfit};
 
 use crate::agreeing::first_disagreeing;
 use crate::fault::RecoveryFault;
@@ -24,7 +24,7 @@ fn has_record(given: &[NodeRecord], node: &NodeId) -> bool
 
 // The place, counted from 1, of the first record that is of the node of an earlier one. They are compared where they are few.
 fn first_same(given: &[NodeRecord]) -> Option<u64>
-    ensures { (known : List GivenNode) → AreGiven given.now known → MatchOption result (AreApart known) (IsFirst AreApart known) }
+    ensures { (known : List GivenNode) → AreGiven given.now known → MatchOption result (HaveDistinctNodes known) (IsFirst HaveDistinctNodes known) }
 {
     for (index, kept) in given.iter().enumerate() {
         let place = index as u64 + 1;

@@ -129,7 +129,7 @@ pub fn recover_at(rt: &HostRuntime, words: &MadeOf<'_>) -> Ending {
 
 /// Makes the store of a controller in the SQLite file at `words.new`, which may be missing, with the next id that the word says, of the orchestrator's
 /// store, and holds the nodes' against it; they all have to be there; and writes the line of what it made to standard output. The answer is how the
-/// process ends: as `asked_session` or `Plugin::of_config` says; as `recover_at` where stores can't be opened; and then as `rebuild` says, but `Device` in
+/// process ends: as `asked_session` or `AskedPlugin::of_config` says; as `recover_at` where stores can't be opened; and then as `rebuild` says, but `Device` in
 /// place of `Done`, or `Memory`, where a log couldn't be put back. This profile's own.
 pub fn rebuild_at(rt: &HostRuntime, words: &MadeOf<'_>) -> Ending {
     match rebuilt_at(rt, words) {

@@ -4,7 +4,7 @@ ghost use Rattle.csi_replay.specs.Private.Closing.{ending_done, ending_closed};
 
 use csi_endings::Ending;
 use csi_orchestration::{asked_nodes, orchestrator};
-use csi_plugins::{Plugin, asked_session, ending_unopened, plugin, record};
+use csi_plugins::{AskedPlugin, asked_session, ending_unopened, plugin, record};
 use csi_sqlite::{OverStore, over_file, over_found};
 use csi_stores::{Counted, Keep, KeepFault};
 use csi_types::NodeId;
@@ -14,7 +14,7 @@ use std::{fs, io};
 // What serves over a store: a plugin; or the orchestrator of these nodes, in the next session, or in this one, where that is later.
 #[derive(Drop)]
 enum Asked {
-    Plugin(Plugin),
+    Plugin(AskedPlugin),
     Orchestrator { nodes: Vec<NodeId>, least: u64 },
 }
 
@@ -63,9 +63,9 @@ fn serve_from(rt: &HostRuntime, path: &str, asked: Asked) -> Ending {
 }
 
 /// The controller plugin under the configuration in this file.
-pub(crate) fn controller_of(rt: &(impl Files + AllocGlobal), path: &str) -> Result<Plugin, Ending> {
+pub(crate) fn controller_of(rt: &(impl Files + AllocGlobal), path: &str) -> Result<AskedPlugin, Ending> {
     match fs::read(rt, path) {
-        Ok(input) => Plugin::of_config(rt.alloc(), input.as_slice()),
+        Ok(input) => AskedPlugin::of_config(rt.alloc(), input.as_slice()),
         Err(error) => Err(Ending::of_device(error.kind())),
     }
 }
@@ -80,7 +80,7 @@ pub(crate) fn nodes_of(rt: &(impl Files + AllocGlobal), path: &str) -> Result<Ve
 
 /// Serves standard input to standard output, by the controller plugin under the configuration in the file at `config`, over the store
 /// in the SQLite file at `store`, which is made where there is none. The answer is how the process ends: `Device` or `Memory` where
-/// that file can't be read, or as `Plugin::of_config` says; `StoreNotOpened`, or `Memory` where that was the cause; and then
+/// that file can't be read, or as `AskedPlugin::of_config` says; `StoreNotOpened`, or `Memory` where that was the cause; and then
 /// as `plugin` says, but `Device` in place of `Done`, or `Memory`, where the log couldn't be put back: then each commit is in the
 /// file and its log, and not in the file alone. The store is opened after the configuration was taken, and standard input is
 /// read after that. This profile's own.
@@ -92,9 +92,9 @@ pub fn serve_controller(rt: &HostRuntime, store: &str, config: &str) -> Ending {
 }
 
 /// Serves by the plugin of the node that has this id and joined with the session that this word says, as `serve_controller` does, or ends as
-/// `Plugin::of_id` says. This profile's own.
+/// `AskedPlugin::of_id` says. This profile's own.
 pub fn serve_node(rt: &HostRuntime, store: &str, id: &str, session: Option<&str>) -> Ending {
-    match Plugin::of_id(rt.alloc(), id, session) {
+    match AskedPlugin::of_id(rt.alloc(), id, session) {
         Ok(asked) => serve_from(rt, store, Asked::Plugin(asked)),
         Err(ending) => ending,
     }

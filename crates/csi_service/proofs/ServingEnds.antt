@@ -17,8 +17,8 @@ use Rattle.csi_driver.proofs.StoreCalls.{follows-more}
 use Rattle.csi_driver.proofs.GrowingAnswers.{answers-length, answers-some}
 use Rattle.csi_driver.proofs.Items.{in-two, something, front-taken}
 use Rattle.csi_driver.proofs.Groups.{IsFresh, came-settles, came-stops, finished, refused-left, refused-cause, refused-written, unwritten-kept, unwritten-runs, unwritten-written}
-use Rattle.csi_driver.specs.declared.driver.Stop.{Stop}
-use Rattle.csi_driver.specs.declared.driver.Stop.TheVariants as stop
+use Rattle.csi_driver.specs.declared.driver.DriveStop.{DriveStop}
+use Rattle.csi_driver.specs.declared.driver.DriveStop.TheVariants as stop
 use Rattle.csi_driver.specs.declared.frames.FramesFault.{FramesFault}
 use Rattle.csi_driver.specs.declared.frames.FramesFault.TheVariants as frames_faults
 use Rattle.csi_driver.specs.Public.Driving.{TellsReader}
@@ -29,7 +29,7 @@ use Rattle.csi_stores.specs.Public.Part.{StoredPart}
 use Rattle.csi_stores.specs.Public.Stores.{Store, FollowsStore}
 use Rattle.csi_service.specs.declared.serving.fault.Served.{Served}
 use Rattle.csi_service.specs.declared.serving.fault.ServeFault.{ServeFault}
-use Rattle.csi_service.specs.declared.serving.handling.Answering.{Answering}
+use Rattle.csi_service.specs.declared.serving.handling.CoreHandler.{CoreHandler}
 use Rattle.csi_service.specs.Public.Failing.{Stays, ReaderStaysAt, WriterStaysAt}
 use Rattle.csi_service.specs.Private.Handling.{Serving, waiting_of, stopped_by}
 use Rattle.csi_service.specs.Public.Serving.{Setting, AnswersEach, reply_bytes, reply_count, AllDone, Waits, frames_counted, EndsBy, Serves, IsAllAnswered}
@@ -42,13 +42,13 @@ waits_so rest waits = inr (length rest, waits)
 -- ---- counts of failures
 
 -- the reader failed at Input
-pub reader_failed : (before after : ℕ) (s : Stop (FramesFault AnswerFault)) → TellsReader {A = Unit {0}} before after (Err s) → s ≡ stop.Input → HasRisen before after
+pub reader_failed : (before after : ℕ) (s : DriveStop (FramesFault AnswerFault)) → TellsReader {A = Unit {0}} before after (Err s) → s ≡ stop.Input → HasRisen before after
 reader_failed before after stop.Input told is = told
 reader_failed before after stop.Endless told is = absurd cc
 reader_failed before after (stop.Consumer fault) told is = absurd cc
 
 -- and at no other end
-pub reader_stays : (before after frames : ℕ) (s : Stop (FramesFault AnswerFault)) → TellsReader {A = Unit {0}} before after (Err s) → Stays {A = Served} ReaderStaysAt before after (Err (record { kind = stopped_by s; frames = frames }))
+pub reader_stays : (before after frames : ℕ) (s : DriveStop (FramesFault AnswerFault)) → TellsReader {A = Unit {0}} before after (Err s) → Stays {A = Served} ReaderStaysAt before after (Err (record { kind = stopped_by s; frames = frames }))
 reader_stays before after frames stop.Input told = tt
 reader_stays before after frames stop.Endless told = told
 reader_stays before after frames (stop.Consumer (frames_faults.Frame kind place)) told = told
@@ -59,7 +59,7 @@ reader_stays before after frames (stop.Consumer (frames_faults.Handler why.Outpu
 
 -- where nothing waits all that was read is answered
 pub all_answered : {C K W : Type 0} (answers : C → Frame → Option Frame → C → Type 0) (parts_of : C → List StoredPart) (store : K → Store) (contents : W → Option (List ℕ)) (first now : Serving C K W) (read : List ℕ) → IsFresh first.own.waiting
-    → RestsAtFrames (handles answers parts_of store contents) (flushes answers parts_of store contents) (λ (answering : Answering C). answering.waiting.items ≡ 0) first read now
+    → RestsAtFrames (handles answers parts_of store contents) (flushes answers parts_of store contents) (λ (answering : CoreHandler C). answering.waiting.items ≡ 0) first read now
     → IsAllAnswered answers parts_of first.own.core (store first.store) (store now.store) (contents first.out.inner) (contents now.out.inner) read
 all_answered answers parts_of store contents first now read fresh rests =
     let p = finished answers parts_of reply_bytes is_some store contents first.own.core (waiting_of first) rests.0 now.own.core (waiting_of now) (came_by answers parts_of store contents first now rests.0 fresh rests.3) rests.4 in
@@ -67,8 +67,8 @@ all_answered answers parts_of store contents first now read fresh rests =
 
 module _ {C K W : Type 0} (answers : C → Frame → Option Frame → C → Type 0) (parts_of : C → List StoredPart) (store : K → Store) (contents : W → Option (List ℕ)) (first now : Serving C K W) (count : ℕ) (left left' : Option (List ℕ)) (fresh : IsFresh first.own.waiting) where
   -- the frames of a reader, handled to its end
-  abbrev pub Read : Result (Unit {0}) (Stop (FramesFault AnswerFault)) → Type 0
-  Read = ReadsFrames (handles answers parts_of store contents) (flushes answers parts_of store contents) (λ (answering : Answering C). answering.waiting.items ≡ 0) (stops answers parts_of store contents) first now count left left'
+  abbrev pub Read : Result (Unit {0}) (DriveStop (FramesFault AnswerFault)) → Type 0
+  Read = ReadsFrames (handles answers parts_of store contents) (flushes answers parts_of store contents) (λ (answering : CoreHandler C). answering.waiting.items ≡ 0) (stops answers parts_of store contents) first now count left left'
 
   -- how many frames were committed
   abbrev pub k : ℕ
@@ -124,10 +124,10 @@ module _ {C K W : Type 0} (answers : C → Frame → Option Frame → C → Type
     }
 
     -- all frames were
-    all : {end : Result (Unit {0}) (Stop (FramesFault AnswerFault))} (r : Read end) (p : Done answers parts_of store contents first r.frames now.own.core (waiting_of now)) → k ≡ length r.frames
+    all : {end : Result (Unit {0}) (DriveStop (FramesFault AnswerFault))} (r : Read end) (p : Done answers parts_of store contents first r.frames now.own.core (waiting_of now)) → k ≡ length r.frames
     all r p = omega (arith, p.committed, few r.read r.frames r.rest r.stream r.few)
 
-    serves_all : {end : Result (Unit {0}) (Stop (FramesFault AnswerFault))} (r : Read end) (p : Done answers parts_of store contents first r.frames now.own.core (waiting_of now)) (result : Result Served ServeFault) → frames_counted result ≡ k
+    serves_all : {end : Result (Unit {0}) (DriveStop (FramesFault AnswerFault))} (r : Read end) (p : Done answers parts_of store contents first r.frames now.own.core (waiting_of now)) (result : Result Served ServeFault) → frames_counted result ≡ k
         → EndsBy (Full P Q E) r.frames r.rest p.given now.own.core [] result → Serves (Full P Q E) r.read result
     serves_all r p result told ends = serves r.read r.frames r.rest r.stream r.frames [] (sym (append-nil r.frames)) (all r p) p.given now.own.core p.runs [] result told ends
 
@@ -140,7 +140,7 @@ module _ {C K W : Type 0} (answers : C → Frame → Option Frame → C → Type
         (serves_all r p (Ok (record { frames = k; replies = now.own.waiting.answers })) refl (refl, all r p, r.ends.1, told, at_end r.ends.0, all_done p), p.follows, p.quiet)
 
     -- it stopped before
-    pub halted : (s : Stop (FramesFault AnswerFault)) (r : Read (Err s)) → (IsAtEnd left' → P) → (s ≡ stop.Input → Q) → (2 ^ 63 ≤ length r.read → E) → Ended r.read (Err (record { kind = stopped_by s; frames = k }))
+    pub halted : (s : DriveStop (FramesFault AnswerFault)) (r : Read (Err s)) → (IsAtEnd left' → P) → (s ≡ stop.Input → Q) → (2 ^ 63 ≤ length r.read → E) → Ended r.read (Err (record { kind = stopped_by s; frames = k }))
     halted stop.Input r at_end failed endless =
         let p = done_by r.frames r.ends.1.runs r.ends.1.flushed in
         (serves_all r p (Err (record { kind = stopped_by stop.Input; frames = k })) refl (refl, all r p, failed refl, waits_so r.rest r.ends.0, all_done p), p.follows, p.quiet)

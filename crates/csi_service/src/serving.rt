@@ -14,7 +14,7 @@ use crate::plugin_core::Core;
 use csi_driver::{Frames, Source, Waiting};
 use csi_stores::{Counted, Keep};
 pub use fault::{ServeFault, ServeFaultKind, Served};
-use handling::{Answering, stopped};
+use handling::{CoreHandler, stopped};
 use std::alloc::Global;
 use std::io::Write;
 
@@ -70,7 +70,7 @@ pub fn serve<C: Core, K: Keep, R: Source<K, Counted<W>>, W: Write>(
     ensures writer { Stays WriterStaysAt writer.old.faults writer.new.faults result }
     ensures follows { FollowsStore (K.store keep.old) (K.store keep.new) }
 {
-    let handler = Answering {
+    let handler = CoreHandler {
         core,
         waiting: Waiting::new(alloc),
     };

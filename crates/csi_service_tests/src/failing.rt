@@ -2,7 +2,7 @@
 //! that ends, after how many frames, and what is counted, written and kept.
 use crate::contents::{CONTROLLER_HEAD, Content, NOTHING, has};
 use crate::script::{CUTS, Cut, MADE, ONE_MADE, SCRIPT, replied, whole_frames};
-use crate::serving::{End, Plugin, run, stream};
+use crate::serving::{End, PluginKind, run, stream};
 use crate::turns::Turn;
 use csi_frames::FaultKind;
 use csi_service::{Counted, Keep, KeepFault, MemoryKeep, ServeFaultKind};
@@ -290,7 +290,7 @@ const BEGUN: Content = (
 const NEW: Content = (CONTROLLER_HEAD, &[], &[]);
 
 const DELETES: &Turn = &Turn {
-    plugin: Plugin::Controller,
+    plugin: PluginKind::Controller,
     steps: &[(DELETE, DELETED), (DELETE, DELETED), (DELETE, DELETED)],
     contents: &[NOTHING, NEW, BEGUN, BEGUN, BEGUN],
 };
@@ -308,7 +308,7 @@ fn nothing_is_read_once_a_reply_is_not_written(rt: HostRuntime) {
 
 // 140 deletions, of which 132 are in the first piece of 4,096 bytes, and all but the first repeat it.
 const MANY: &Turn = &Turn {
-    plugin: Plugin::Controller,
+    plugin: PluginKind::Controller,
     steps: &[(DELETE, DELETED); 140],
     contents: &[NOTHING, NEW, BEGUN],
 };
@@ -343,7 +343,7 @@ const CONTENTS: &[Content] = &[NOTHING, NEW, (ONE_MADE, MADE, &[])];
 
 // A creation, and then a deletion whose length is one too many, with more behind it; or the first three bytes of a frame.
 const FAULTY: &Turn = &Turn {
-    plugin: Plugin::Controller,
+    plugin: PluginKind::Controller,
     steps: &[
         (CREATE, CREATED),
         (
@@ -359,7 +359,7 @@ const FAULTY: &Turn = &Turn {
 };
 
 const CUT: &Turn = &Turn {
-    plugin: Plugin::Controller,
+    plugin: PluginKind::Controller,
     steps: &[(CREATE, CREATED), (&[0, 0, 0], &[])],
     contents: CONTENTS,
 };

@@ -8,7 +8,7 @@ use crate::older::{
     SECOND_NODE, SECOND_ONE_MADE,
 };
 use crate::script::{GONE, MADE, ONE_MADE, OTHER, PLAYED, SCRIPT, TWO_MADE};
-use crate::serving::{End, Plugin, config, fault, joined, take};
+use crate::serving::{End, PluginKind, config, fault, joined, take};
 use csi_service::{ControllerService, Keep, KeepFault, MemoryKeep, NodeUnopened, raise};
 use csi_stores::{FailingKeep, Left};
 use std::process::Abort;
@@ -26,34 +26,34 @@ const LATER_BOTH: Content = (IN_SESSION_2, MADE, LATER);
 const NEW_NODE: Content = (NODE_HEAD, &[], &[]);
 
 // What a store has, and what it has once its plugin is opened of it.
-const OPENED: &[(Plugin, Content, Content)] = &[
-    (Plugin::Controller, NOTHING, (CONTROLLER_HEAD, &[], &[])),
-    (Plugin::Node, NOTHING, NEW_NODE),
+const OPENED: &[(PluginKind, Content, Content)] = &[
+    (PluginKind::Controller, NOTHING, (CONTROLLER_HEAD, &[], &[])),
+    (PluginKind::Node, NOTHING, NEW_NODE),
     (
-        Plugin::Controller,
+        PluginKind::Controller,
         (&[2, 0, 0, 0, 0, 0, 0, 0, 0, 1], &[], &[]),
         (CONTROLLER_HEAD, &[], &[]),
     ),
-    (Plugin::Node, (&[2, 1, 2, 110, 49], &[], &[]), NEW_NODE),
+    (PluginKind::Node, (&[2, 1, 2, 110, 49], &[], &[]), NEW_NODE),
     (
-        Plugin::Controller,
+        PluginKind::Controller,
         (FIRST_ONE_MADE, FIRST_MADE, &[]),
         (ONE_MADE, MADE, &[]),
     ),
     (
-        Plugin::Controller,
+        PluginKind::Controller,
         (SECOND_ONE_MADE, SECOND_MADE, &[]),
         (ONE_MADE, MADE, &[]),
     ),
-    (Plugin::Controller, FIRST, PLAYED),
-    (Plugin::Controller, SECOND, PLAYED),
-    (Plugin::Controller, FORGETS, FORGOTTEN),
-    (Plugin::Controller, FIRST_FORGETS, FORGOTTEN),
-    (Plugin::Controller, LATER_BOTH, LATER_BOTH),
-    (Plugin::Node, FIRST_NODE, NODE),
-    (Plugin::Node, SECOND_NODE, NODE),
-    (Plugin::Node, NODE_FORGETS, NODE_FORGOTTEN),
-    (Plugin::Node, FIRST_NODE_FORGETS, NODE_FORGOTTEN),
+    (PluginKind::Controller, FIRST, PLAYED),
+    (PluginKind::Controller, SECOND, PLAYED),
+    (PluginKind::Controller, FORGETS, FORGOTTEN),
+    (PluginKind::Controller, FIRST_FORGETS, FORGOTTEN),
+    (PluginKind::Controller, LATER_BOTH, LATER_BOTH),
+    (PluginKind::Node, FIRST_NODE, NODE),
+    (PluginKind::Node, SECOND_NODE, NODE),
+    (PluginKind::Node, NODE_FORGETS, NODE_FORGOTTEN),
+    (PluginKind::Node, FIRST_NODE_FORGETS, NODE_FORGOTTEN),
 ];
 
 #[test]
@@ -69,17 +69,17 @@ fn a_store_has_version_3_when_it_is_opened(rt: HostRuntime) {
 }
 
 // What a store has, a session that is raised in it, and what it has then: the head has the session where that is later, and empty rows are gone.
-const RAISED: &[(Plugin, Content, u64, Content)] = &[
-    (Plugin::Controller, PLAYED, 2, (IN_SESSION_2, &[], OTHER)),
-    (Plugin::Controller, PLAYED, 1, PLAYED),
+const RAISED: &[(PluginKind, Content, u64, Content)] = &[
+    (PluginKind::Controller, PLAYED, 2, (IN_SESSION_2, &[], OTHER)),
+    (PluginKind::Controller, PLAYED, 1, PLAYED),
     (
-        Plugin::Node,
+        PluginKind::Node,
         NODE,
         2,
         (&[3, 1, 2, 110, 49, 0, 0, 0, 0, 0, 0, 0, 2], NODE_ROW, &[]),
     ),
     (
-        Plugin::Node,
+        PluginKind::Node,
         NODE_FORGOTTEN,
         258,
         (&[3, 1, 2, 110, 49, 0, 0, 0, 0, 0, 0, 1, 2], &[], &[]),
@@ -89,16 +89,16 @@ const RAISED: &[(Plugin, Content, u64, Content)] = &[
 // Whether the session is raised in the plugin of this store.
 fn is_raised(
     rt: &(impl Abort + AllocGlobal),
-    plugin: Plugin,
+    plugin: PluginKind,
     session: u64,
     keep: &mut MemoryKeep,
 ) -> bool {
     match plugin {
-        Plugin::Controller => match ControllerService::open(rt.alloc(), config(rt), keep) {
+        PluginKind::Controller => match ControllerService::open(rt.alloc(), config(rt), keep) {
             Ok(mut service) => raise(&mut service, session, keep).is_ok(),
             Err(_) => false,
         },
-        Plugin::Node => match joined(rt, keep, 0) {
+        PluginKind::Node => match joined(rt, keep, 0) {
             Ok(mut service) => raise(&mut service, session, keep).is_ok(),
             Err(_) => false,
         },
@@ -132,7 +132,7 @@ fn a_store_of_an_earlier_version_is_served(rt: HostRuntime) {
 // How much a store in memory takes for the head of a new plugin: 8 bytes and its value.
 #[test]
 fn a_head_fits_exactly(rt: HostRuntime) {
-    for (plugin, size) in [(Plugin::Controller, 26u64), (Plugin::Node, 21)] {
+    for (plugin, size) in [(PluginKind::Controller, 26u64), (PluginKind::Node, 21)] {
         let mut small = MemoryKeep::new(rt.alloc(), size.saturating_sub(1));
         assert!(&rt; fault(&rt, plugin, &mut small) == Some(KeepFault::Full));
         assert!(&rt; has(&mut small, NOTHING));
@@ -193,7 +193,7 @@ const REFUSED_NODES: &[(Content, u64)] = &[
 ];
 
 // Such a store is refused there, and has what it had.
-fn refuses(rt: &(impl Abort + AllocGlobal), plugin: Plugin, rows: &[(Content, u64)]) {
+fn refuses(rt: &(impl Abort + AllocGlobal), plugin: PluginKind, rows: &[(Content, u64)]) {
     for (content, place) in rows {
         let mut keep = store(rt, *content);
         let fault = fault(rt, plugin, &mut keep);
@@ -205,8 +205,8 @@ fn refuses(rt: &(impl Abort + AllocGlobal), plugin: Plugin, rows: &[(Content, u6
 
 #[test]
 fn what_is_no_record_is_refused_and_not_rewritten(rt: HostRuntime) {
-    refuses(&rt, Plugin::Controller, REFUSED);
-    refuses(&rt, Plugin::Node, REFUSED_NODES);
+    refuses(&rt, PluginKind::Controller, REFUSED);
+    refuses(&rt, PluginKind::Node, REFUSED_NODES);
 }
 
 // The first opening fails where its one commit does, which leaves version 2 or version 3; the second one has version 3.
@@ -214,10 +214,10 @@ fn what_is_no_record_is_refused_and_not_rewritten(rt: HostRuntime) {
 fn a_refused_commit_leaves_version_2_or_version_3(rt: HostRuntime) {
     for (left, wanted) in [(Left::Old, FORGETS), (Left::New, FORGOTTEN)] {
         let mut keep = FailingKeep::new(store(&rt, FORGETS), None, Some(0), left);
-        let refused = fault(&rt, Plugin::Controller, &mut keep);
+        let refused = fault(&rt, PluginKind::Controller, &mut keep);
         assert!(&rt; refused == Some(KeepFault::Device) && keep.faults() == 1);
         assert!(&rt; has(&mut keep, wanted));
-        assert!(&rt; fault(&rt, Plugin::Controller, &mut keep).is_none());
+        assert!(&rt; fault(&rt, PluginKind::Controller, &mut keep).is_none());
         assert!(&rt; has(&mut keep, FORGOTTEN));
         drop(keep);
     }

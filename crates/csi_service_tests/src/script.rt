@@ -1,6 +1,6 @@
 //! The script of six frames for a controller, what it is replied, and what a store has after each.
 use crate::contents::{CONTROLLER_HEAD, Content, NOTHING};
-use crate::serving::Plugin;
+use crate::serving::PluginKind;
 use crate::turns::{Step, Turn};
 
 const STEPS: &[Step] = &[
@@ -147,7 +147,7 @@ pub(crate) fn replied(frames: usize) -> usize {
 
 /// The script over a new store.
 pub(crate) const SCRIPT: &Turn = &Turn {
-    plugin: Plugin::Controller,
+    plugin: PluginKind::Controller,
     steps: STEPS,
     contents: &[
         NOTHING,

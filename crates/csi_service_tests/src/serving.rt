@@ -12,7 +12,7 @@ use std::process::Abort;
 
 /// Which plugin it is: a controller of the nodes `n1` and `n2`, or the node `n1`.
 #[derive(Clone, Copy)]
-pub(crate) enum Plugin {
+pub(crate) enum PluginKind {
     Controller,
     Node,
 }
@@ -63,17 +63,17 @@ fn end_of(rt: &impl Abort, ended: Result<Served, ServeFault>) -> End {
 /// Opens the plugin of this store, and serves what the reader has. No store is of an earlier session than 0.
 pub(crate) fn run<K: Keep, R: Read, W: Write>(
     rt: &(impl Abort + AllocGlobal),
-    plugin: Plugin,
+    plugin: PluginKind,
     keep: &mut K,
     reader: &mut Counted<R>,
     writer: &mut Counted<W>,
 ) -> End {
     match plugin {
-        Plugin::Controller => match ControllerService::open(rt.alloc(), config(rt), keep) {
+        PluginKind::Controller => match ControllerService::open(rt.alloc(), config(rt), keep) {
             Ok(core) => end_of(rt, serve(rt.alloc(), core, keep, reader, writer)),
             Err(fault) => End::Unopened(fault),
         },
-        Plugin::Node => match joined(rt, keep, 0) {
+        PluginKind::Node => match joined(rt, keep, 0) {
             Ok(core) => end_of(rt, serve(rt.alloc(), core, keep, reader, writer)),
             Err(NodeUnopened::Keep(fault)) => End::Unopened(fault),
             Err(NodeUnopened::EarlierSession) => panic!(rt; "a store of an earlier session"),
@@ -139,7 +139,7 @@ pub(crate) fn take<K: Keep>(
 /// Why the plugin isn't opened of this store, if it isn't.
 pub(crate) fn fault<K: Keep>(
     rt: &(impl Abort + AllocGlobal),
-    plugin: Plugin,
+    plugin: PluginKind,
     keep: &mut K,
 ) -> Option<KeepFault> {
     let mut writer = Counted::new(Vec::new(rt.alloc()));

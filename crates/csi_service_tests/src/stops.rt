@@ -6,7 +6,7 @@ use crate::script::{AT_ONCE, CUTS, Cut, SCRIPT};
 use crate::serving::{End, input, run, stream, take};
 use crate::turns::{BEGUN, REWRITTEN, Turn};
 use csi_service::{Counted, Keep, KeepFault, ServeFaultKind};
-use csi_test_disks::{DiskKeep, Image, NO_STOP, Opened, Stop, Stopping};
+use csi_test_disks::{DiskKeep, DiskStop, Image, NO_STOP, Opened, Stopping};
 use std::process::Abort;
 
 const DEVICE: ServeFaultKind = ServeFaultKind::Keep(KeepFault::Device);
@@ -46,7 +46,7 @@ fn stopped(
     rt: &(impl Abort + AllocGlobal),
     image: &Image,
     (turn, (most, _, _)): (&Turn, Cut),
-    stop: Stop,
+    stop: DiskStop,
 ) -> Run {
     let mut keep = match DiskKeep::open(rt.alloc(), image, stop).expect(rt, "memory") {
         Opened::Open(keep) => keep,
@@ -123,7 +123,7 @@ fn stage(end: End) -> usize {
 fn runs(
     rt: &(impl Abort + AllocGlobal),
     (image, turn): (&Image, (&Turn, Cut)),
-    stop: Stop,
+    stop: DiskStop,
     far: &mut usize,
 ) -> bool {
     let Run {

@@ -4,14 +4,14 @@ use crate::older::{
     FIRST_FORGETS, FIRST_NODE_FORGETS, FORGETS, FORGOTTEN, NODE_FORGETS, NODE_FORGOTTEN,
 };
 use crate::script::PLAYED;
-use crate::serving::Plugin;
+use crate::serving::PluginKind;
 
 /// A frame, and what it is replied.
 pub(crate) type Step = (&'static [u8], &'static [u8]);
 
 /// A plugin and its frames, with what the store has before, once it was opened, and after each frame.
 pub(crate) struct Turn {
-    pub(crate) plugin: Plugin,
+    pub(crate) plugin: PluginKind,
     pub(crate) steps: &'static [Step],
     pub(crate) contents: &'static [Content],
 }
@@ -19,22 +19,22 @@ pub(crate) struct Turn {
 /// Stores of versions 1 and 2 are opened, of each of which a row is left out.
 pub(crate) const REWRITTEN: &[Turn] = &[
     Turn {
-        plugin: Plugin::Controller,
+        plugin: PluginKind::Controller,
         steps: &[],
         contents: &[FORGETS, FORGOTTEN],
     },
     Turn {
-        plugin: Plugin::Node,
+        plugin: PluginKind::Node,
         steps: &[],
         contents: &[NODE_FORGETS, NODE_FORGOTTEN],
     },
     Turn {
-        plugin: Plugin::Controller,
+        plugin: PluginKind::Controller,
         steps: &[],
         contents: &[FIRST_FORGETS, FORGOTTEN],
     },
     Turn {
-        plugin: Plugin::Node,
+        plugin: PluginKind::Node,
         steps: &[],
         contents: &[FIRST_NODE_FORGETS, NODE_FORGOTTEN],
     },
@@ -76,7 +76,7 @@ const UNSTAGED_REPLY: &[u8] = &[
 /// A call begins a session, by which a row goes: that of another volume, or its own, in whose place a new one is put in.
 pub(crate) const BEGUN: &[Turn] = &[
     Turn {
-        plugin: Plugin::Controller,
+        plugin: PluginKind::Controller,
         steps: &[(
             &[
                 0, 0, 0, 27, 1, 2, 0, 0, 0, 0, 0, 0, 0, 2, 0, 0, 0, 0, 0, 0, 0, 1, 0, 0, 0, 0, 0,
@@ -90,7 +90,7 @@ pub(crate) const BEGUN: &[Turn] = &[
         contents: &[PLAYED, PLAYED, PLAYED_NEXT],
     },
     Turn {
-        plugin: Plugin::Node,
+        plugin: PluginKind::Node,
         steps: &[(
             &[
                 0, 0, 0, 30, 1, 6, 0, 0, 0, 0, 0, 0, 0, 2, 0, 0, 0, 0, 0, 0, 0, 1, 1, 2, 110, 49,
@@ -101,7 +101,7 @@ pub(crate) const BEGUN: &[Turn] = &[
         contents: &[UNSTAGED, UNSTAGED, NODE_FORGOTTEN],
     },
     Turn {
-        plugin: Plugin::Node,
+        plugin: PluginKind::Node,
         steps: &[(
             &[
                 0, 0, 0, 30, 1, 6, 0, 0, 0, 0, 0, 0, 0, 2, 0, 0, 0, 0, 0, 0, 0, 1, 1, 2, 110, 49,
@@ -116,7 +116,7 @@ pub(crate) const BEGUN: &[Turn] = &[
 /// A new plugin gets a call of session 0, which begins none.
 pub(crate) const IN_SESSION_0: &[Turn] = &[
     Turn {
-        plugin: Plugin::Controller,
+        plugin: PluginKind::Controller,
         steps: &[(
             &[
                 0, 0, 0, 40, 1, 1, 0, 0, 0, 0, 0, 0, 0, 0, 0, 0, 0, 0, 0, 0, 0, 1, 0, 1, 118, 0, 0,
@@ -141,7 +141,7 @@ pub(crate) const IN_SESSION_0: &[Turn] = &[
         ],
     },
     Turn {
-        plugin: Plugin::Node,
+        plugin: PluginKind::Node,
         steps: &[(
             &[
                 0, 0, 0, 32, 1, 5, 0, 0, 0, 0, 0, 0, 0, 0, 0, 0, 0, 0, 0, 0, 0, 1, 1, 2, 110, 49,

@@ -9,8 +9,8 @@ use Rattle.csi_types.specs.declared.memory.NoMemory.{NoMemory}
 use Rattle.csi_stores.specs.declared.counted.Counted.{Counted}
 use Rattle.csi_stores.specs.Public.Counting.{HasRisen}
 use Rattle.csi_stores.specs.Public.Writing.{WritesFront}
-use Rattle.csi_driver.specs.declared.driver.Stop.{Stop}
-use Rattle.csi_driver.specs.declared.driver.Stop.TheVariants as stop
+use Rattle.csi_driver.specs.declared.driver.DriveStop.{DriveStop}
+use Rattle.csi_driver.specs.declared.driver.DriveStop.TheVariants as stop
 use Rattle.csi_driver.specs.declared.frames.FramesFault.{FramesFault}
 use Rattle.csi_driver.specs.declared.frames.FramesFault.TheVariants as frames_faults
 use Rattle.csi_driver.specs.Public.Driving.{TellsReader as ReaderTold}
@@ -78,7 +78,7 @@ abbrev pub Stream : Type 0 → Type 0 → Type 0
 Stream H W = State (Writing H) (Unit {0}) (Counted W)
 
 -- the fault of a stream tells a failure of the reader where what stopped does
-pub reader_told : (before after : ℕ) (s : Stop (FramesFault GivingFault)) → ReaderTold {A = Unit {0}} before after (Err s) → TellsReader {A = ℕ} before after (Err (stream_fault s))
+pub reader_told : (before after : ℕ) (s : DriveStop (FramesFault GivingFault)) → ReaderTold {A = Unit {0}} before after (Err s) → TellsReader {A = ℕ} before after (Err (stream_fault s))
 reader_told before after stop.Input told = told
 reader_told before after stop.Endless told = told
 reader_told before after (stop.Consumer (frames_faults.Frame kind place)) told = told
@@ -142,7 +142,7 @@ module _ {H W : Type 0} (contents : W → Option (List ℕ)) (has_handled : H �
   all_given first now frames a empty = subst (gives frames) (a.parts ∙ ap (λ (bytes : List ℕ). a.front ++ bytes) empty ∙ append-nil a.front) a.gave
 
   -- the frames of a reader, handled to its end
-  abbrev Read : Stream H W → Stream H W → ℕ → Option (List ℕ) → Option (List ℕ) → Result (Unit {0}) (Stop (FramesFault GivingFault)) → Type 0
+  abbrev Read : Stream H W → Stream H W → ℕ → Option (List ℕ) → Option (List ℕ) → Result (Unit {0}) (DriveStop (FramesFault GivingFault)) → Type 0
   Read = ReadsFrames lets_wait writes is_written cuts
 
   module _ (first now : Stream H W) (count : ℕ) (left left' : Option (List ℕ)) (new : has_handled first.own.handler []) (none : gives [] []) (empty : is_written first.own) where
@@ -160,7 +160,7 @@ module _ {H W : Type 0} (contents : W → Option (List ℕ)) (has_handled : H �
         record { read = r.read; consumed = r.consumed; frames = r.frames; rest = r.rest; stream = r.stream; out = a.front; written = a.written; ends = (r.ends.0, r.ends.1, r.ends.2.counted, all_given first now r.frames a r.ends.2.flushed) }
 
     -- it stopped before
-    pub stream_stopped : (s : Stop (FramesFault GivingFault)) → Read first now count left left' (Err s) → IsStreamed gives left left' had has (Err (stream_fault s))
+    pub stream_stopped : (s : DriveStop (FramesFault GivingFault)) → Read first now count left left' (Err s) → IsStreamed gives left left' had has (Err (stream_fault s))
     stream_stopped stop.Input r =
         let a = gave_of first now r.frames new none empty r.ends.1.runs in
         record { read = r.read; consumed = r.consumed; frames = r.frames; rest = r.rest; stream = r.stream; out = a.front; written = a.written; ends = (r.ends.0, all_given first now r.frames a r.ends.1.flushed) }
@@ -210,7 +210,7 @@ module _ {H W : Type 0} (contents : W → Option (List ℕ)) (has_handled : H �
     pub writer_ended : (done : Unit {0}) → Read first now count left left' (Ok done) → TellsWriter {A = ℕ} first.out.faults now.out.faults (Ok count)
     writer_ended done r = (gave_of first now r.frames new none empty r.ends.2.runs).quiet
 
-    pub writer_told : (s : Stop (FramesFault GivingFault)) → Read first now count left left' (Err s) → TellsWriter {A = ℕ} first.out.faults now.out.faults (Err (stream_fault s))
+    pub writer_told : (s : DriveStop (FramesFault GivingFault)) → Read first now count left left' (Err s) → TellsWriter {A = ℕ} first.out.faults now.out.faults (Err (stream_fault s))
     writer_told stop.Input r = (gave_of first now r.frames new none empty r.ends.1.runs).quiet
     writer_told stop.Endless r = (gave_of first now r.frames new none empty r.ends.2.runs).quiet
     writer_told (stop.Consumer (frames_faults.Frame kind place)) r = (gave_of first now r.frames new none empty r.ends.2.runs).quiet

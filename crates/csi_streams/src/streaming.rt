@@ -6,7 +6,7 @@ ghost use Rattle.csi_streams.specs.Public.Streaming.{IsStreamed};
 
 use crate::giving::{GivingFault, Writing};
 use crate::handler::Handler;
-use csi_driver::{Frames, FramesFault, Stop};
+use csi_driver::{DriveStop, Frames, FramesFault};
 use csi_frames::FaultKind;
 use csi_stores::Counted;
 use std::alloc::Global;
@@ -38,13 +38,13 @@ pub enum StreamFault {
 }
 
 // Why the frames of a reader weren't handled to their end.
-fn fault_of(stop: Stop<FramesFault<GivingFault>>) -> StreamFault
+fn fault_of(stop: DriveStop<FramesFault<GivingFault>>) -> StreamFault
     ensures { result ≡ stream_fault stop }
 {
     match stop {
-        Stop::Input => StreamFault::Input,
-        Stop::Endless => StreamFault::Endless,
-        Stop::Consumer(fault) => match fault {
+        DriveStop::Input => StreamFault::Input,
+        DriveStop::Endless => StreamFault::Endless,
+        DriveStop::Consumer(fault) => match fault {
             FramesFault::Frame(kind, place) => StreamFault::Frame(kind, place),
             FramesFault::NoMemory => StreamFault::NoMemory,
             FramesFault::Handler(GivingFault::NoMemory) => StreamFault::NoMemory,

@@ -1,7 +1,7 @@
 //! A store in SQLite over files that stop to answer.
 use crate::file_keep::{FileKeep, Held, opened};
 use crate::image::Image;
-use crate::stop::Stop;
+use crate::stop::DiskStop;
 use csi_sqlite::copies;
 use csi_stores::{Keep, KeepFault, Part};
 use csi_types::NoMemory;
@@ -37,7 +37,7 @@ pub enum Opened {
 
 impl DiskKeep {
     /// A store in files that hold this, all of it synced, and that stop so.
-    pub fn open(alloc: Global, image: &Image, stop: Stop) -> Result<Opened, NoMemory> {
+    pub fn open(alloc: Global, image: &Image, stop: DiskStop) -> Result<Opened, NoMemory> {
         let Files { mut log, mut db } = copies(alloc, &image.db, &image.log)?;
         let Ok(_) = log.sync() else {
             return Err(NoMemory);

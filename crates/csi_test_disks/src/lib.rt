@@ -11,5 +11,5 @@ mod table_keep;
 
 pub use disk_keep::{DiskKeep, Opened};
 pub use image::Image;
-pub use stop::{NO_STOP, Stop, Stopping};
+pub use stop::{DiskStop, NO_STOP, Stopping};
 pub use table_keep::TableKeep;

@@ -2,7 +2,7 @@
 
 /// How many calls the log answers and how many the database file; and whether the power fails then, so that what wasn't synced is lost.
 #[derive(Clone, Copy)]
-pub struct Stop {
+pub struct DiskStop {
     /// The log's calls.
     pub log: u64,
     /// The database file's.
@@ -12,7 +12,7 @@ pub struct Stop {
 }
 
 /// Neither file stops.
-pub const NO_STOP: Stop = Stop {
+pub const NO_STOP: DiskStop = DiskStop {
     log: u64::MAX,
     db: u64::MAX,
     power_fails: false,
@@ -29,14 +29,14 @@ pub enum Stopping {
 
 impl Stopping {
     /// The stop of this file after so many calls.
-    pub fn after(self, calls: u64, power_fails: bool) -> Stop {
+    pub fn after(self, calls: u64, power_fails: bool) -> DiskStop {
         match self {
-            Stopping::Log => Stop {
+            Stopping::Log => DiskStop {
                 log: calls,
                 power_fails,
                 ..NO_STOP
             },
-            Stopping::Database => Stop {
+            Stopping::Database => DiskStop {
                 db: calls,
                 power_fails,
                 ..NO_STOP

@@ -1,6 +1,6 @@
 -- What is known to be so is so, and what is known not to be so isn't, by the list of what holds; and what an audit finds then.
 use Rattle.csi_world.proofs.Words.{◌≡◌, ◌≢◌, ◌↔◌, List, Bool, true, IsTrue, ◌&&◌, refl, sym, ◌∙◌, subst, list_all}
-use Rattle.csi_world.proofs.Words.{IsAmong, Thing, Known, Yes, No, ListsKnown, same_thing, World, holds}
+use Rattle.csi_world.proofs.Words.{IsAmong, Thing, Known, Yes, No, ListsKnown, same_thing, World, is_true_in}
 use Rattle.csi_world.proofs.Words.{AreMarkedRight, is_listed, is_noted, is_affirmed, arith}
 use Rattle.csi_world.proofs.Lemmas.{and_parts, and_from, false≢true, false_from_ne_true, all-then, then-all, any-then}
 use Rattle.csi_world.proofs.Lemmas.{then-any, same_text-tells}
@@ -45,7 +45,7 @@ each-affirmed : (things : List Thing) (entry : Thing × Known) → (entry.1 ≡ 
 each-affirmed things entry f = grind (arith, is-listed)
 
 -- by a list of what holds and a list of what is known, the two tests tell whether all is marked right
-pub marked-told : (marks : Thing → Known) (world : World) (things : List Thing) (noted : List (Thing × Known)) → ((thing : Thing) → IsAmong thing things ↔ (holds world thing ≡ true)) → ListsKnown marks noted
+pub marked-told : (marks : Thing → Known) (world : World) (things : List Thing) (noted : List (Thing × Known)) → ((thing : Thing) → IsAmong thing things ↔ (is_true_in world thing ≡ true)) → ListsKnown marks noted
     → (b : Bool) → b ≡ (list_all (is_affirmed things) noted && list_all (is_noted noted) things) → IsTrue b ↔ AreMarkedRight marks world
 marked-told marks world things noted all lists b g = (λ h. to h, λ right. g ∙ and_from affirmed known (back_affirmed right) (back_noted right))
   where
@@ -60,7 +60,7 @@ marked-told marks world things noted all lists b g = (λ h. to h, λ right. g �
         let parts = and_parts affirmed known (sym g ∙ h) in
         record {
           yes = λ is. (all thing).0 (listed-is things thing (all-then (is_affirmed things) noted parts.0 (thing, Yes) ((lists thing Yes).1 (is, yes_not_no))));
-          no = λ is. false_from_ne_true (holds world thing) (λ there.
+          no = λ is. false_from_ne_true (is_true_in world thing) (λ there.
               let found = noted-is noted thing (all-then (is_noted noted) things parts.1 thing ((all thing).1 there)) in
               let told = (lists thing found.0).0 found.1 in
               told.1 (sym told.0 ∙ is));

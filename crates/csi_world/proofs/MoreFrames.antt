@@ -4,7 +4,7 @@ use Rattle.csi_world.proofs.Words.{◌≡◌, ◌⊎◌, ℕ, ◌<◌, ◌≤◌
 use Rattle.csi_world.proofs.Words.{⊎_elim, arith, Number, Kind, Party, Controller, Node, Body, Reply, Frame, IsAmong}
 use Rattle.csi_world.proofs.Words.{NodeState, Thing, Issued, Sent, History, open_call, last_number, frame_of, World}
 use Rattle.csi_world.proofs.Words.{node_state, with_node, with_frame, with_history, answered_by_node, answered_by}
-use Rattle.csi_world.proofs.Words.{answered_by_plugin, holds, Safe, Choice, Sends, Answers, MayChoose, chosen}
+use Rattle.csi_world.proofs.Words.{answered_by_plugin, is_true_in, Safe, Choice, Sends, Answers, MayChoose, chosen}
 use Rattle.csi_world.proofs.Lemmas.{none-some, same_Some, among-append, among-either, among-last, unless-some}
 use Rattle.csi_types.specs.declared.frame.Body.TheVariants as bodies
 use Rattle.csi_controller.specs.Model.Fenced as controller
@@ -94,6 +94,6 @@ safe-fewer world frames safe =
       recorded_right = λ thing. record { yes = λ known. holds-fewer thing ∙ (safe.recorded_right thing).yes known; no = λ known. holds-fewer thing ∙ (safe.recorded_right thing).no known };
     }
   where
-    holds-fewer : (thing : Thing) → holds world thing ≡ holds (with_frames frames world) thing
+    holds-fewer : (thing : Thing) → is_true_in world thing ≡ is_true_in (with_frames frames world) thing
     holds-fewer (things.Exists name) = refl
     holds-fewer thing = refl

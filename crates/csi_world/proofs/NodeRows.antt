@@ -24,25 +24,25 @@ use Rattle.csi_world.proofs.Floors.{under}
 -- ---- each is of another volume
 
 -- the rows are of different volumes
-abbrev pub AreApart : List AnsweredVolume → Type 0
-AreApart rows = EachTwo (λ (a b : AnsweredVolume). (a.id == b.id) ≡ false) rows
+abbrev pub HaveDistinctVolumes : List AnsweredVolume → Type 0
+HaveDistinctVolumes rows = EachTwo (λ (a b : AnsweredVolume). (a.id == b.id) ≡ false) rows
 
 -- so they are once a call is kept
-keep-apart : (volume : Option ℕ) (kept : Kept) (state : NodeState) → AreApart state.rows → AreApart (nodes.keep volume kept state).rows
-keep-apart volume kept state apart = grind (arith, two-map, two-more, kept_in-id, two-append, none_passes)
+keep-distinct : (volume : Option ℕ) (kept : Kept) (state : NodeState) → HaveDistinctVolumes state.rows → HaveDistinctVolumes (nodes.keep volume kept state).rows
+keep-distinct volume kept state apart = grind (arith, two-map, two-more, kept_in-id, two-append, none_passes)
 
 -- and once a call is carried out
-carried-apart : (node : List ℕ) (state : NodeState) (number : Number) (call : Call) → AreApart state.rows → AreApart (nodes.carried_out node state number call (table.node_row state call)).state.rows
-carried-apart node state number call apart = grind (arith, was_carried, Carried, no_room, has_room, keep-apart, kept_of, changed-rows)
+carried-distinct : (node : List ℕ) (state : NodeState) (number : Number) (call : Call) → HaveDistinctVolumes state.rows → HaveDistinctVolumes (nodes.carried_out node state number call (table.node_row state call)).state.rows
+carried-distinct node state number call apart = grind (arith, was_carried, Carried, no_room, has_room, keep-distinct, kept_of, changed-rows)
 
 -- whatever frames came
-pub apart-rows : (node : List ℕ) (session : ℕ) (frames : List Frame) → AreApart (after_frames node (joined_node session) frames).rows
-apart-rows node session frames =
-    frames_keep (nodes.node_at node) (λ (s : NodeState). AreApart s.rows)
+pub distinct-rows : (node : List ℕ) (session : ℕ) (frames : List Frame) → HaveDistinctVolumes (after_frames node (joined_node session) frames).rows
+distinct-rows node session frames =
+    frames_keep (nodes.node_at node) (λ (s : NodeState). HaveDistinctVolumes s.rows)
     (record {
       sets_session = λ session state. refl;
       begins = λ session state later apart. two-filter (λ (a b : AnsweredVolume). (a.id == b.id) ≡ false) (λ (r : AnsweredVolume). is_some (staged_of r.id state)) state.rows apart;
-      carries = λ state number call carried apart. carried-apart node state number call apart;
+      carries = λ state number call carried apart. carried-distinct node state number call apart;
     }) (joined_node session) frames tt
 
 -- ---- each is of a call that was sent

@@ -1,7 +1,7 @@
 -- A volume on its way to rest, delivery by delivery.
 use Rattle.csi_world.proofs.Words.{◌≡◌, ℕ, zero, suc, ◌+◌, ◌≤◌, ◌<◌, List, length, true, false, cond, not, ◌||◌}
 use Rattle.csi_world.proofs.Words.{is_some, refl, sym, ◌∙◌, ap, subst, arith, Timeout, History, goal_of, has_row, Shows}
-use Rattle.csi_world.proofs.Words.{Outcome, World, OnItsWay, frame_numbered, delivered, delivered_on, brought_on}
+use Rattle.csi_world.proofs.Words.{Outcome, World, OnItsWay, frame_numbered, delivered, delivered_on, way_after_timeout}
 use Rattle.csi_world.proofs.Words.{settling_way, settled_by, occurs, WorldParts, ShowsWorld, CameOn, IsWorldAfter}
 use Rattle.csi_world.proofs.Words.{IsSoundWorld}
 use Rattle.csi_world.specs.declared.outcomes.Outcome.TheVariants.{Settled, NotSettled}
@@ -121,8 +121,8 @@ all-went old mid new world name first count outcome wanted sent shows timed then
 
     all : settling_way world name ≡ delivered_on 12 after name first
     all =
-        ap (λ b. cond (b || not (has_row world.history name)) still (brought_on world name)) (rest-wanted world name ∙ ap not is_wanted)
-        ∙ ap (λ b. cond (not b) still (brought_on world name)) (wanted-row old.orchestrator world.history name shows.orchestrator is_wanted)
+        ap (λ b. cond (b || not (has_row world.history name)) still (way_after_timeout world name)) (rest-wanted world name ∙ ap not is_wanted)
+        ∙ ap (λ b. cond (not b) still (way_after_timeout world name)) (wanted-row old.orchestrator world.history name shows.orchestrator is_wanted)
         ∙ ap (λ n. delivered_on 12 after name n) (ap length (sym shows.frames) ∙ sym sent)
 
 -- ---- what comes of it

@@ -5,7 +5,7 @@ use Rattle.csi_world.proofs.Words.{Published, ThingForm, StagedAs, PublishedAs, 
 use Rattle.csi_world.proofs.Words.{volume_named, live_volume, holding_at, NodeState, StagedVolume, PublishedVolume}
 use Rattle.csi_world.proofs.Words.{staged_of, is_published_at, published_at, Thing, Yes, known, NodeAt, World}
 use Rattle.csi_world.proofs.Words.{node_state, IsStagedWhereAttached, IsPublishedWhereStaged, IsAttachedWhileLive}
-use Rattle.csi_world.proofs.Words.{holds_attached, holds_staged, holds_published, holds, IsRecordedRight}
+use Rattle.csi_world.proofs.Words.{is_attached_there, is_staged_there, is_published_there, is_true_in, IsRecordedRight}
 use Rattle.csi_world.proofs.Lemmas.{and_parts, eqb-true, false≢true, among-find, find-passes, is_some-map, none-where}
 use Rattle.csi_world.proofs.Lemmas.{same_text-tells}
 use Rattle.csi_controller.specs.Public.View as controllers
@@ -65,8 +65,8 @@ module _ (world : World) (given : List GivenId) (are : AreGiven given) (of : Are
   -- how the world has a thing by an id, and by the name of the volume of that id
   pub record IsSoBy (name : List ℕ) (thing : Thing) (plugin_thing : ℕ → PluginThing) : Type 0 where
     -- where the volume of the name has an id, the thing is as it is by that
-    pub by_id : (volume : Volume) → volume_named name world.controller ≡ Some volume → holds world thing ≡ is_some ((view_of world).held (plugin_thing volume.id))
-    pub unnamed : volume_named name world.controller ≡ None → holds world thing ≡ false
+    pub by_id : (volume : Volume) → volume_named name world.controller ≡ Some volume → is_true_in world thing ≡ is_some ((view_of world).held (plugin_thing volume.id))
+    pub unnamed : volume_named name world.controller ≡ None → is_true_in world thing ≡ false
     -- and only what has a live volume is there
     pub ended : (id : ℕ) → live_volume id world.controller ≡ None → (view_of world).held (plugin_thing id) ≡ None
 
@@ -74,8 +74,8 @@ module _ (world : World) (given : List GivenId) (are : AreGiven given) (of : Are
   attached-so : (name node : List ℕ) → IsSoBy name (things.Attached name node) (λ id. Attached id node)
   attached-so name node =
       record {
-        by_id = λ volume e. ap (holds_attached world.controller node) e ∙ sym (is_some-map _ (holding_at volume.id node world.controller));
-        unnamed = λ e. ap (holds_attached world.controller node) e;
+        by_id = λ volume e. ap (is_attached_there world.controller node) e ∙ sym (is_some-map _ (holding_at volume.id node world.controller));
+        unnamed = λ e. ap (is_attached_there world.controller node) e;
         ended = λ id ended. ended-detached world id node ordered.live ended;
       }
 
@@ -95,12 +95,12 @@ module _ (world : World) (given : List GivenId) (are : AreGiven given) (of : Are
   staged-so : (name node : List ℕ) → IsSoBy name (things.Staged name node) (λ id. Staged id node)
   staged-so name node =
       record {
-        by_id = λ volume e. ap (λ o. holds_staged o (node_state node world)) e ∙ there (node_state node world) volume.id volume refl;
-        unnamed = λ e. ap (λ o. holds_staged o (node_state node world)) e;
+        by_id = λ volume e. ap (λ o. is_staged_there o (node_state node world)) e ∙ there (node_state node world) volume.id volume refl;
+        unnamed = λ e. ap (λ o. is_staged_there o (node_state node world)) e;
         ended = λ id ended. unstaged node id ended (node_state node world) refl;
       }
     where
-      there : (o : Option NodeState) (id : ℕ) (volume : Volume) → volume.id ≡ id → holds_staged (Some volume) o ≡ is_some ((node_view node (over_at world) o).held (Staged id node))
+      there : (o : Option NodeState) (id : ℕ) (volume : Volume) → volume.id ≡ id → is_staged_there (Some volume) o ≡ is_some ((node_view node (over_at world) o).held (Staged id node))
       there None id volume e = refl
       there (Some state) id volume e = ap (λ n. is_some (staged_of n state)) e ∙ sym (is_some-map StagedAs (staged_of id state)) ∙ sym (ap (λ b. is_some (cond b (option_map StagedAs (staged_of id state)) None)) (self node))
 
@@ -125,20 +125,20 @@ module _ (world : World) (given : List GivenId) (are : AreGiven given) (of : Are
   published-so : (name node target : List ℕ) → IsSoBy name (things.Published name node target) (λ id. Published id node target)
   published-so name node target =
       record {
-        by_id = λ volume e. ap (λ o. holds_published target o (node_state node world)) e ∙ there (node_state node world) volume.id volume refl;
-        unnamed = λ e. ap (λ o. holds_published target o (node_state node world)) e;
+        by_id = λ volume e. ap (λ o. is_published_there target o (node_state node world)) e ∙ there (node_state node world) volume.id volume refl;
+        unnamed = λ e. ap (λ o. is_published_there target o (node_state node world)) e;
         ended = λ id ended. unpublished node target id ended (node_state node world) refl;
       }
     where
-      there : (o : Option NodeState) (id : ℕ) (volume : Volume) → volume.id ≡ id → holds_published target (Some volume) o ≡ is_some ((node_view node (over_at world) o).held (Published id node target))
+      there : (o : Option NodeState) (id : ℕ) (volume : Volume) → volume.id ≡ id → is_published_there target (Some volume) o ≡ is_some ((node_view node (over_at world) o).held (Published id node target))
       there None id volume e = refl
       there (Some state) id volume e = ap (λ n. is_some (published_at n target state)) e ∙ sym (is_some-map published_as (published_at id target state)) ∙ sym (ap (λ b. is_some (cond b (option_map published_as (published_at id target state)) None)) (self node))
 
   -- what is there by an id of the name is so by the name
-  there-holds : (name : List ℕ) (thing : Thing) (plugin_thing : ℕ → PluginThing) (id : ℕ) → HasName given name id → IsSoBy name thing plugin_thing → is_some ((view_of world).held (plugin_thing id)) ≡ true → holds world thing ≡ true
+  there-holds : (name : List ℕ) (thing : Thing) (plugin_thing : ℕ → PluginThing) (id : ℕ) → HasName given name id → IsSoBy name thing plugin_thing → is_some ((view_of world).held (plugin_thing id)) ≡ true → is_true_in world thing ≡ true
   there-holds name thing plugin_thing id has so held = by (live_volume id world.controller) refl
     where
-      by : (o : Option Volume) → live_volume id world.controller ≡ o → holds world thing ≡ true
+      by : (o : Option Volume) → live_volume id world.controller ≡ o → is_true_in world thing ≡ true
       by None e = absurd (false≢true (sym (ap is_some (so.ended id e)) ∙ held))
       by (Some volume) e =
           let there = of.names.live_id id volume e in
@@ -147,24 +147,24 @@ module _ (world : World) (given : List GivenId) (are : AreGiven given) (of : Are
           ∙ ap (λ n. is_some ((view_of world).held (plugin_thing n))) (id-of_found id world.controller volume there) ∙ held
 
   -- what isn't there by the id that the name has now isn't so by the name
-  gone-holds-not : (name : List ℕ) (thing : Thing) (plugin_thing : ℕ → PluginThing) → IsSoBy name thing plugin_thing → ((id : ℕ) → HasNow given name id → (view_of world).held (plugin_thing id) ≡ None) → holds world thing ≡ false
+  gone-holds-not : (name : List ℕ) (thing : Thing) (plugin_thing : ℕ → PluginThing) → IsSoBy name thing plugin_thing → ((id : ℕ) → HasNow given name id → (view_of world).held (plugin_thing id) ≡ None) → is_true_in world thing ≡ false
   gone-holds-not name thing plugin_thing so gone = by (volume_named name world.controller) refl
     where
-      by : (o : Option Volume) → volume_named name world.controller ≡ o → holds world thing ≡ false
+      by : (o : Option Volume) → volume_named name world.controller ≡ o → is_true_in world thing ≡ false
       by None e = so.unnamed e
       by (Some volume) e =
           let has = subst (λ n. HasName given n volume.id) (name-of_found name world.controller volume e) (of.listed volume.id volume (of.names.by_id name volume e)) in
           so.by_id volume e ∙ ap is_some (⊎_elim (λ now. gone volume.id now) (λ old. so.ended volume.id (of.ended name volume.id old)) has)
 
   -- what is there holds
-  yes-holds : (thing : Thing) (plugin_thing : PluginThing) → IsThingBy (HasName given) thing plugin_thing → is_some ((view_of world).held plugin_thing) ≡ true → holds world thing ≡ true
+  yes-holds : (thing : Thing) (plugin_thing : PluginThing) → IsThingBy (HasName given) thing plugin_thing → is_some ((view_of world).held plugin_thing) ≡ true → is_true_in world thing ≡ true
   yes-holds _ _ (Existence name) held = sym (is_some-map _ (controllers.live_named name world.controller)) ∙ held
   yes-holds _ _ (Attachment name node id has) held = there-holds name (things.Attached name node) (λ i. Attached i node) id has (attached-so name node) held
   yes-holds _ _ (Staging name node id has) held = there-holds name (things.Staged name node) (λ i. Staged i node) id has (staged-so name node) held
   yes-holds _ _ (Publication name node target id has) held = there-holds name (things.Published name node target) (λ i. Published i node target) id has (published-so name node target) held
 
   -- and what isn't there by the id that its name has now doesn't
-  no-holds : (thing : Thing) → ((plugin_thing : PluginThing) → IsOne given thing plugin_thing → (view_of world).held plugin_thing ≡ None) → holds world thing ≡ false
+  no-holds : (thing : Thing) → ((plugin_thing : PluginThing) → IsOne given thing plugin_thing → (view_of world).held plugin_thing ≡ None) → is_true_in world thing ≡ false
   no-holds (things.Exists name) gone = sym (is_some-map _ (controllers.live_named name world.controller)) ∙ ap is_some (gone (Exists name) (Existence name))
   no-holds (things.Attached name node) gone = gone-holds-not name (things.Attached name node) (λ id. Attached id node) (attached-so name node) (λ id has. gone (Attached id node) (Attachment name node id has))
   no-holds (things.Staged name node) gone = gone-holds-not name (things.Staged name node) (λ id. Staged id node) (staged-so name node) (λ id has. gone (Staged id node) (Staging name node id has))

@@ -20,7 +20,7 @@ use Rattle.csi_world.proofs.KnownThings.{IsSoFar}
 use Rattle.csi_world.proofs.FreshCalls.{node_now, node-now-rows}
 use Rattle.csi_world.proofs.GivenIds.{GivenId, HasNow, live-named, live-now}
 use Rattle.csi_world.proofs.Lifetimes.{ends, calls_since, over_in, is_past, since-or-before}
-use Rattle.csi_world.proofs.NodeRows.{AreApart, apart-rows, IsCalled, AreCalled}
+use Rattle.csi_world.proofs.NodeRows.{HaveDistinctVolumes, distinct-rows, IsCalled, AreCalled}
 use Rattle.csi_world.proofs.PluginsReached.{found-at, node-of-frames}
 use Rattle.csi_world.proofs.RunWorlds.{IsRun, RunLaws}
 use Rattle.csi_world.proofs.UndoneCalls.{HasRoom, own-now}
@@ -204,13 +204,13 @@ module _ (laws : RunLaws) (world : World) (run : IsRun world) where
             subst (λ (n : List ℕ × NodeState). AreCalled (issued_in world.history.items) n.0 n.1) (λ i. (found.2 i, found.3 i)) (run.called found.0 found.1) r (node-now-rows node issued.number state r here)
 
     -- the rows are of different volumes
-    rows-apart : AreApart now.rows
+    rows-apart : HaveDistinctVolumes now.rows
     rows-apart = by (begins state.session issued.number)
       where
-        apart : AreApart state.rows
-        apart = let of = node-of-frames world node state run.right.good.reached there in subst (λ (s : NodeState). AreApart s.rows) (sym of.2) (apart-rows node of.0 of.1)
+        apart : HaveDistinctVolumes state.rows
+        apart = let of = node-of-frames world node state run.right.good.reached there in subst (λ (s : NodeState). HaveDistinctVolumes s.rows) (sym of.2) (distinct-rows node of.0 of.1)
 
-        by : (b : Bool) → AreApart (cond b (nodes.begun issued.number.session state) state).rows
+        by : (b : Bool) → HaveDistinctVolumes (cond b (nodes.begun issued.number.session state) state).rows
         by true = two-filter (λ (a b : AnsweredVolume). (a.id == b.id) ≡ false) (λ (r : AnsweredVolume). is_some (staged_of r.id state)) state.rows apart
         by false = apart
 

@@ -10,7 +10,7 @@ use Rattle.csi_world.proofs.Words.{empty_world, node_state, without_node, with_h
 use Rattle.csi_world.proofs.Words.{Notes, Starts, Forgets, Answers, Joins, Loses, Configures, chosen, MayChooseAll}
 use Rattle.csi_world.proofs.Words.{chosen_all, frame_of, answered_by_plugin, Occurred, OnItsWay, by_answer, by_result}
 use Rattle.csi_world.proofs.Words.{orchestrated, called_at, called, delivered_body, delivered, frame_numbered}
-use Rattle.csi_world.proofs.Words.{joined_at, lost_by, is_node_of, lost, delivered_on, brought_on, settled_by}
+use Rattle.csi_world.proofs.Words.{joined_at, lost_by, is_node_of, lost, delivered_on, way_after_timeout, settled_by}
 use Rattle.csi_world.proofs.Words.{settling_way, occurs, after_from}
 use Rattle.csi_world.proofs.Lemmas.{none-some, reverse-append, filter_map-append, each-append, among-append}
 use Rattle.csi_types.specs.declared.frame.Body.TheVariants as bodies
@@ -304,9 +304,9 @@ settles world name law reached = by (is_at_rest world name || not (has_row world
     still : OnItsWay
     still = record { world = world; events = 0 }
 
-    by : (b : Bool) → Stepped world (cond b still (brought_on world name)).world 39
+    by : (b : Bool) → Stepped world (cond b still (way_after_timeout world name)).world 39
     by true = record { comes = stays world 39; reached = reached }
-    by false = stepped-then world timed (brought_on world name).world 3 (threes 12) first (delivers-on 12 (record { world = timed; events = 1 }) name (length world.frames) law first.reached)
+    by false = stepped-then world timed (way_after_timeout world name).world 3 (threes 12) first (delivers-on 12 (record { world = timed; events = 1 }) name (length world.frames) law first.reached)
 
 -- the world after any event comes so
 pub one-event : (world : World) (event : Event) → stepwise.MovesLaw → stepwise.IsReached world.history → Stepped world (occurs world event).world (most_steps world event)

@@ -6,7 +6,7 @@ use Rattle.csi_types.specs.declared.event.Event.TheVariants.{Timeout, Deliver, S
 use Rattle.csi_orchestrator.specs.Model.Readings.{has_row}
 use Rattle.csi_world.specs.declared.outcomes.Outcome.TheVariants as outcomes
 use Rattle.csi_world.specs.Model.World.{World}
-use Rattle.csi_world.specs.Model.After.{OnItsWay, frame_numbered, is_at_rest, delivered_on, brought_on, settling_way, occurs, after_from}
+use Rattle.csi_world.specs.Model.After.{OnItsWay, frame_numbered, is_at_rest, delivered_on, way_after_timeout, settling_way, occurs, after_from}
 use Rattle.csi_world.specs.Public.Settling.{deliveries, settling, settled, spelled, spelled_from}
 use Rattle.csi_world.specs.Private.Telling.{counted_deliveries, counted_events}
 
@@ -35,7 +35,7 @@ settled-keeps P name timeout delivery world p = by (is_at_rest world name || not
     timed : OnItsWay
     timed = record { world = (occurs world (Timeout name)).world; events = 1 }
 
-    by : (b : Bool) → P (cond b still (brought_on world name)).world
+    by : (b : Bool) → P (cond b still (way_after_timeout world name)).world
     by true = p
     by false = on-keeps P name delivery 12 timed (length world.frames) (timeout world p)
 
@@ -75,7 +75,7 @@ settled-world world name = by (is_at_rest world name || not (has_row world.histo
     timed : OnItsWay
     timed = record { world = (occurs world (Timeout name)).world; events = 1 }
 
-    by : (b : Bool) → (after_from world (cond b [] (Timeout name ∷ deliveries 12 timed.world name (length world.frames)))).world ≡ (cond b still (brought_on world name)).world
+    by : (b : Bool) → (after_from world (cond b [] (Timeout name ∷ deliveries 12 timed.world name (length world.frames)))).world ≡ (cond b still (way_after_timeout world name)).world
     by true = refl
     by false = on-world 12 timed name (length world.frames)
 
@@ -89,7 +89,7 @@ settled-count world name = by (is_at_rest world name || not (has_row world.histo
     timed : OnItsWay
     timed = record { world = (occurs world (Timeout name)).world; events = 1 }
 
-    by : (b : Bool) → length (cond b [] (Timeout name ∷ deliveries 12 timed.world name (length world.frames))) ≡ (cond b still (brought_on world name)).events
+    by : (b : Bool) → length (cond b [] (Timeout name ∷ deliveries 12 timed.world name (length world.frames))) ≡ (cond b still (way_after_timeout world name)).events
     by true = refl
     by false = let rest = on-count 12 timed name (length world.frames) in omega (arith, rest)
 
@@ -149,10 +149,10 @@ settling-counted world name = by (is_at_rest world name || not (has_row world.hi
     others : List Event
     others = deliveries 12 timed.world name place
 
-    counted : suc (length others) ≡ (brought_on world name).events
+    counted : suc (length others) ≡ (way_after_timeout world name).events
     counted = let rest = on-count 12 timed name place in omega (arith, rest)
 
-    by : (b : Bool) → cond b [] (Timeout name ∷ others) ≡ counted_events name place (cond b still (brought_on world name)).events
+    by : (b : Bool) → cond b [] (Timeout name ∷ others) ≡ counted_events name place (cond b still (way_after_timeout world name)).events
     by true = refl
     by false = ap (λ es. Timeout name ∷ es) (deliveries-counted 12 timed name place) ∙ ap (counted_events name place) counted
 

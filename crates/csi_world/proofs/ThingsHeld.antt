@@ -4,8 +4,8 @@ use Rattle.csi_world.proofs.Words.{option_map, find, filter, is_some, ◌==◌, 
 use Rattle.csi_world.proofs.Words.{⊎_elim, list_any, flat_map, Holding, IsAmong, same_text, ControllerRow, NodeHolding}
 use Rattle.csi_world.proofs.Words.{AtMostOne, volume_of_row, holdings_in_row, holdings_in, Volume, volume_named}
 use Rattle.csi_world.proofs.Words.{is_held_at, StagedVolume, PublishedVolume, NodeState, is_published_at, staged_shown}
-use Rattle.csi_world.proofs.Words.{published_shown, Thing, NodeLists, NodeAt, World, node_state, holds, holds_attached}
-use Rattle.csi_world.proofs.Words.{holds_staged, holds_published, AreRowsApart, Lists, node_listed, IsNodeAlike}
+use Rattle.csi_world.proofs.Words.{published_shown, Thing, NodeLists, NodeAt, World, node_state, is_true_in, is_attached_there}
+use Rattle.csi_world.proofs.Words.{is_staged_there, is_published_there, AreRowsApart, Lists, node_listed, IsNodeAlike}
 use Rattle.csi_world.proofs.Words.{IsListed, controller_row_with_id, exists_thing, attached_thing, things_of}
 use Rattle.csi_world.proofs.Words.{staged_things, staged_thing, published_things, published_thing, things_at}
 use Rattle.csi_world.proofs.Words.{things_listed, arith}
@@ -80,17 +80,17 @@ module _ (lists : Lists) (world : World) (is : IsListed lists world) (kept : Are
   -- ---- each that is listed holds
 
   -- a volume exists where a row of its name is live
-  exists-told : (name : List ℕ) → holds world (Exists name) ≡ list_any (λ (r : ControllerRow). same_text r.name name && r.live) rows
+  exists-told : (name : List ℕ) → is_true_in world (Exists name) ≡ list_any (λ (r : ControllerRow). same_text r.name name && r.live) rows
   exists-told name =
       let p : Volume → Bool = λ volume. same_text volume.name name && volume.is_live in
       ap (λ (vs : List Volume). is_some (find p vs)) (sym is.volumes) ∙ sym (any-find p (map volume_of_row rows)) ∙ any-of_map p volume_of_row rows
 
   -- the volume of a row is attached where the row is held
-  attached-holds : (row : ControllerRow) → IsAmong row rows → (held : NodeHolding) → IsAmong held row.holdings.items → holds world (Attached row.name held.node) ≡ true
+  attached-holds : (row : ControllerRow) → IsAmong row rows → (held : NodeHolding) → IsAmong held row.holdings.items → is_true_in world (Attached row.name held.node) ≡ true
   attached-holds row among held here =
       let own : IsAmong (held_of row held) (holdings_in_row row) = in-map (held_of row) row.holdings.items held here in
       let of_volume = subst (IsAmong (held_of row held)) (holdings-of-row row among) own in
-      ap (holds_attached world.controller held.node) (volume-of row among) ∙ sym (any-find (is_held_at row.id held.node) world.controller.holdings)
+      ap (is_attached_there world.controller held.node) (volume-of row among) ∙ sym (any-find (is_held_at row.id held.node) world.controller.holdings)
       ∙ then-any (is_held_at row.id held.node) world.controller.holdings (held_of row held) (among-filter (λ (h : Holding). h.volume == row.id) world.controller.holdings (held_of row held) of_volume)
       (and_from _ _ (eq-eqb row.id row.id refl) ((same_text-tells held.node held.node).1 refl))
 
@@ -107,7 +107,7 @@ module _ (lists : Lists) (world : World) (is : IsListed lists world) (kept : Are
 
   -- what is listed as staged is staged, where a row has its id
   staged-holds : (n : NodeLists) → IsAmong n lists.nodes → (s : StagedEntry) → IsAmong s n.staged.items → (row : ControllerRow) → controller_row_with_id s.id rows ≡ Some row
-      → holds world (Staged row.name n.id) ≡ true
+      → is_true_in world (Staged row.name n.id) ≡ true
   staged-holds n at s here row e =
       let own = id-of-row s.id row e in
       let node = node-of-list n at in
@@ -116,12 +116,12 @@ module _ (lists : Lists) (world : World) (is : IsListed lists world) (kept : Are
       let there = among-by_key (λ (x : StagedVolume). x.volume) (map staged_shown n.staged.items) list (node.1).staged (staged_shown s) (in-map staged_shown n.staged.items s here) in
       let volume = volume-of row own.0 in
       let place = node.2 in
-      (λ i. holds_staged (volume i) (place i)) ∙ is_some-map (λ (x : StagedVolume). x.capability) (find p list) ∙ sym (any-find p list)
+      (λ i. is_staged_there (volume i) (place i)) ∙ is_some-map (λ (x : StagedVolume). x.capability) (find p list) ∙ sym (any-find p list)
       ∙ then-any p list (staged_shown s) there (eq-eqb s.id row.id own.1)
 
   -- and what is listed as published is published
   published-holds : (n : NodeLists) → IsAmong n lists.nodes → (s : PublishedEntry) → IsAmong s n.published.items → (row : ControllerRow) → controller_row_with_id s.id rows ≡ Some row
-      → holds world (Published row.name n.id s.target) ≡ true
+      → is_true_in world (Published row.name n.id s.target) ≡ true
   published-holds n at s here row e =
       let own = id-of-row s.id row e in
       let node = node-of-list n at in
@@ -131,11 +131,11 @@ module _ (lists : Lists) (world : World) (is : IsListed lists world) (kept : Are
       let there = among-by_key (λ (x : PublishedVolume). x.volume) (map published_shown n.published.items) list (node.1).published (published_shown s) shown in
       let volume = volume-of row own.0 in
       let place = node.2 in
-      (λ i. holds_published s.target (volume i) (place i)) ∙ sym (any-find p list)
+      (λ i. is_published_there s.target (volume i) (place i)) ∙ sym (any-find p list)
       ∙ then-any p list (published_shown s) there (and_from _ _ (eq-eqb s.id row.id own.1) ((same_text-tells s.target s.target).1 refl))
 
   -- each thing that is listed holds
-  pub listed-then-holds : (thing : Thing) → IsAmong thing (things_listed rows lists.nodes) → holds world thing ≡ true
+  pub listed-then-holds : (thing : Thing) → IsAmong thing (things_listed rows lists.nodes) → is_true_in world thing ≡ true
   listed-then-holds thing among =
       ⊎_elim (λ here. let found = among-flat things_of rows thing here in of_row found.0 found.1 (among-joined (exists_thing found.0) _ thing found.2))
       (λ here. let found = among-flat (things_at rows) lists.nodes thing here in
@@ -143,7 +143,7 @@ module _ (lists : Lists) (world : World) (is : IsListed lists world) (kept : Are
       (among-joined (flat_map things_of rows) _ thing among)
     where
       Holds : Thing → Type 0
-      Holds t = holds world t ≡ true
+      Holds t = is_true_in world t ≡ true
 
       live : (row : ControllerRow) → IsAmong row rows → (b : Bool) → row.live ≡ b → IsAmong thing (cond b (Exists row.name ∷ []) []) → Holds thing
       live row own true e here =
@@ -187,7 +187,7 @@ module _ (lists : Lists) (world : World) (is : IsListed lists world) (kept : Are
   at-node n thing at here = among-right (flat_map things_of rows) (flat_map (things_at rows) lists.nodes) thing (in-flat (things_at rows) lists.nodes n thing at here)
 
   -- each thing that holds is listed
-  pub holds-then-listed : (thing : Thing) → holds world thing ≡ true → IsAmong thing things
+  pub holds-then-listed : (thing : Thing) → is_true_in world thing ≡ true → IsAmong thing things
   holds-then-listed (Exists name) h =
       let found = any-then (λ (r : ControllerRow). same_text r.name name && r.live) rows (sym (exists-told name) ∙ h) in
       let row : ControllerRow = found.0 in
@@ -195,7 +195,7 @@ module _ (lists : Lists) (world : World) (is : IsListed lists world) (kept : Are
       let here : IsAmong (Exists row.name) (exists_thing row) = subst (λ b. IsAmong (Exists row.name) (cond b (Exists row.name ∷ []) [])) (sym parts.1) (inl refl) in
       subst (λ n. IsAmong (Exists n) things) ((same_text-tells row.name name).0 parts.0) (at-controller row (Exists row.name) found.1 (among-append (exists_thing row) _ _ here))
   holds-then-listed (Attached name node) h =
-      of-row (holds_attached world.controller node) (λ n. IsAmong (Attached n node) things) name refl (λ row own h.
+      of-row (is_attached_there world.controller node) (λ n. IsAmong (Attached n node) things) name refl (λ row own h.
       let held = any-then (is_held_at row.id node) world.controller.holdings (any-find (is_held_at row.id node) world.controller.holdings ∙ h) in
       let parts = and_parts ((held.0).volume == row.id) (same_text (held.0).node node) held.2 in
       let there = subst (IsAmong held.0) (sym (holdings-of-row row own)) (in_filter (λ (x : Holding). x.volume == row.id) world.controller.holdings held.0 held.1 parts.0) in
@@ -204,8 +204,8 @@ module _ (lists : Lists) (world : World) (is : IsListed lists world) (kept : Are
       subst (λ n. IsAmong (Attached row.name n) things) place
       (at-controller row (Attached row.name (entry.0).node) own (among-right (exists_thing row) _ _ (in-map (attached_thing row.name) row.holdings.items entry.0 entry.1)))) h
   holds-then-listed (Staged name node) h =
-      of-row (λ o. holds_staged o (node_state node world)) (λ n. IsAmong (Staged n node) things) name refl (λ row own.
-      of-node (holds_staged (Some (volume_of_row row))) (λ id. IsAmong (Staged row.name id) things) node refl (λ n at m alike h.
+      of-row (λ o. is_staged_there o (node_state node world)) (λ n. IsAmong (Staged n node) things) name refl (λ row own.
+      of-node (is_staged_there (Some (volume_of_row row))) (λ id. IsAmong (Staged row.name id) things) node refl (λ n at m alike h.
       let p : StagedVolume → Bool = λ x. x.volume == row.id in
       let one = any-then p m.state.staged (any-find p m.state.staged ∙ sym (is_some-map (λ (x : StagedVolume). x.capability) (find p m.state.staged)) ∙ h) in
       let there = among-by_key (λ (x : StagedVolume). x.volume) m.state.staged (map staged_shown n.staged.items) (λ id. sym (alike.staged id)) one.0 one.1 in
@@ -215,8 +215,8 @@ module _ (lists : Lists) (world : World) (is : IsListed lists world) (kept : Are
       at-node n (Staged row.name n.id) at
       (among-append (flat_map (staged_thing rows n.id) n.staged.items) _ _ (in-flat (staged_thing rows n.id) n.staged.items entry.0 (Staged row.name n.id) entry.1 here)))) h
   holds-then-listed (Published name node target) h =
-      of-row (λ o. holds_published target o (node_state node world)) (λ n. IsAmong (Published n node target) things) name refl (λ row own.
-      of-node (holds_published target (Some (volume_of_row row))) (λ id. IsAmong (Published row.name id target) things) node refl (λ n at m alike h.
+      of-row (λ o. is_published_there target o (node_state node world)) (λ n. IsAmong (Published n node target) things) name refl (λ row own.
+      of-node (is_published_there target (Some (volume_of_row row))) (λ id. IsAmong (Published row.name id target) things) node refl (λ n at m alike h.
       let one = any-then (is_published_at row.id target) m.state.published (any-find (is_published_at row.id target) m.state.published ∙ h) in
       let parts = and_parts ((one.0).volume == row.id) (same_text (one.0).target target) one.2 in
       let there = among-by_key (λ (x : PublishedVolume). x.volume) m.state.published (map published_shown n.published.items) (λ id. sym (alike.published id)) one.0 one.1 in

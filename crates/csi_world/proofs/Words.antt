@@ -103,13 +103,13 @@ pub use Rattle.csi_orchestrator.specs.Public.Steps.{AreStepwise, Begins, IsReach
 pub use Rattle.csi_orchestrator.specs.Public.Steps.{MovesLaw, frame_of}
 pub use Rattle.csi_world.specs.declared.auditing.lists.NodeLists.{NodeLists}
 pub use Rattle.csi_world.specs.declared.outcomes.Outcome.{Outcome}
-pub use Rattle.csi_world.specs.Model.After.{Occurred, OnItsWay, Run, after, after_from, brought_on, by_answer}
+pub use Rattle.csi_world.specs.Model.After.{Occurred, OnItsWay, Run, after, after_from, by_answer, way_after_timeout}
 pub use Rattle.csi_world.specs.Model.After.{by_result, called, called_at, delivered, delivered_body, delivered_on}
 pub use Rattle.csi_world.specs.Model.After.{frame_numbered, is_node_of, joined_at, lost, lost_by, next_frame, occurs}
 pub use Rattle.csi_world.specs.Model.After.{orchestrated, restarted_at, settled_by, settling_way}
 pub use Rattle.csi_world.specs.Model.Safe.{IsAttachedAs, IsAttachedWhileLive, IsExclusive, IsPublishedWhereStaged}
-pub use Rattle.csi_world.specs.Model.Safe.{IsRecordedRight, IsStagedWhereAttached, Safe, holds, holds_attached}
-pub use Rattle.csi_world.specs.Model.Safe.{holds_published, holds_staged}
+pub use Rattle.csi_world.specs.Model.Safe.{IsRecordedRight, IsStagedWhereAttached, Safe, is_attached_there, is_true_in}
+pub use Rattle.csi_world.specs.Model.Safe.{is_published_there, is_staged_there}
 pub use Rattle.csi_world.specs.Model.Simulated.{AreNodesShown, ShowsRun, ShowsWorld, WorldParts}
 pub use Rattle.csi_world.specs.Model.Step.{answered_by, answered_by_node, answered_by_plugin}
 pub use Rattle.csi_world.specs.Model.World.{NodeAt, World, empty_world, new_node, node_id, node_state, with_frame}

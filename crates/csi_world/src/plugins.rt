@@ -68,7 +68,7 @@ pub(crate) fn place_of(nodes: &[Node], id: &NodeId) -> Option<usize>
 }
 
 /// The node of this id.
-pub(crate) fn node_of<'a>(nodes: &'a [Node], id: &NodeId) -> Option<&'a Node>
+pub(crate) fn node_with_id<'a>(nodes: &'a [Node], id: &NodeId) -> Option<&'a Node>
     ensures { option_copied result ≡ find (λ node. same_text node.id id.now) nodes.now }
 {
     match place_of(nodes, id) {

@@ -8,7 +8,7 @@ ghost use Rattle.csi_world.specs.Public.Simulating.{numbered, IsSoundWorld, Show
 ghost use Rattle.csi_world.specs.Public.System.{world_parts};
 
 use crate::outcomes::Outcome;
-use crate::plugins::node_of;
+use crate::plugins::node_with_id;
 use crate::sending::frame_of;
 use crate::system::System;
 use csi_controller::Controller;
@@ -125,7 +125,7 @@ impl World {
         ensures value { option_copied result ≡ find (λ node. same_text node.id id.now) self.now.nodes }
         ensures world { (world : Shown) → ShowsWorld self.now world → ShowsNode (option_copied result) (node_state id.now world) }
     {
-        node_of(&self.system.nodes, id)
+        node_with_id(&self.system.nodes, id)
     }
 
     /// The orchestrator. It takes no memory.

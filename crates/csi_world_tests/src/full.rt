@@ -24,7 +24,7 @@ fn name_of(rt: &(impl Abort + AllocGlobal), volume: u64) -> Name {
     name(rt, &text)
 }
 
-fn node_of(rt: &(impl Abort + AllocGlobal), node: u64) -> NodeId {
+fn numbered_node_id(rt: &(impl Abort + AllocGlobal), node: u64) -> NodeId {
     let text = format!(in rt.alloc(); "n{node}").expect(rt, "memory");
     node_id(rt, &text)
 }
@@ -32,14 +32,14 @@ fn node_of(rt: &(impl Abort + AllocGlobal), node: u64) -> NodeId {
 fn full_config(rt: &(impl Abort + AllocGlobal)) -> Config {
     let mut list = room(rt, 64);
     for node in 0..NODES {
-        let id = node_of(rt, node);
+        let id = numbered_node_id(rt, node);
         list.push(NodeSlots { id, slots: 4096 }).expect(rt, "room");
     }
     Config::try_new(rt.alloc(), 1000, list).expect(rt, "a configuration")
 }
 
 // This happens to a volume, which then comes to rest.
-fn happens(rt: &(impl Abort + AllocGlobal), events: &mut Vec<Event>, event: Event, volume: u64) {
+fn push_and_settle(rt: &(impl Abort + AllocGlobal), events: &mut Vec<Event>, event: Event, volume: u64) {
     events.push(event).expect(rt, "room");
     events
         .push(Event::Settle(name_of(rt, volume)))
@@ -53,7 +53,7 @@ fn create(rt: &(impl Abort + AllocGlobal), events: &mut Vec<Event>, volume: u64)
         limit: 0,
         capabilities: only_block(rt, MultiNodeMultiWriter),
     };
-    happens(rt, events, created, volume)
+    push_and_settle(rt, events, created, volume)
 }
 
 fn use_at(
@@ -66,12 +66,12 @@ fn use_at(
     let text = format!(in rt.alloc(); "/{place}").expect(rt, "memory");
     let used = Event::Use {
         name: name_of(rt, volume),
-        node: node_of(rt, node),
+        node: numbered_node_id(rt, node),
         target: target(rt, &text),
         capability: block(MultiNodeMultiWriter),
         readonly: false,
     };
-    happens(rt, events, used, volume)
+    push_and_settle(rt, events, used, volume)
 }
 
 // The last volume is asked to leave its node.
@@ -91,7 +91,7 @@ fn full_events(rt: &(impl Abort + AllocGlobal)) -> Vec<Event> {
     }
     let stopped = Event::Stop {
         name: name_of(rt, VOLUMES - 1),
-        node: node_of(rt, NODES - 1),
+        node: numbered_node_id(rt, NODES - 1),
         target: target(rt, "/0"),
     };
     events.push(stopped).expect(rt, "room");

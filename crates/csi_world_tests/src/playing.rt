@@ -47,7 +47,7 @@ fn came_of_last(
 }
 
 // Another event happens, and this comes of it.
-fn happens(
+fn play_event(
     rt: &(impl Abort + AllocGlobal),
     config: &Config,
     events: &mut Vec<Event>,
@@ -69,8 +69,8 @@ fn answered(
 ) {
     let reply = call.wrapping_add(1);
     let delivered = (Does::Deliver(call), Outcome::Answered(reply));
-    happens(rt, config, events, delivered, at);
-    happens(rt, config, events, (Does::Deliver(reply), then), at);
+    play_event(rt, config, events, delivered, at);
+    play_event(rt, config, events, (Does::Deliver(reply), then), at);
 }
 
 // This is done by three calls, the first of them this frame, each sent when the reply to the one before it was taken.
@@ -83,7 +83,7 @@ fn three_calls(
 ) {
     let second = first.wrapping_add(2);
     let third = first.wrapping_add(4);
-    happens(rt, config, events, (does, Outcome::Sent(first)), at);
+    play_event(rt, config, events, (does, Outcome::Sent(first)), at);
     let then = Outcome::Taken(Some(second));
     answered(rt, config, events, (first, then), at);
     let then = Outcome::Taken(Some(third));
@@ -122,10 +122,10 @@ fn play(
     at: At,
 ) {
     match step {
-        Step::On(does, outcome) => happens(rt, config, events, (does, outcome), at),
+        Step::On(does, outcome) => play_event(rt, config, events, (does, outcome), at),
         Step::Makes(mode) => {
             let created = (Does::Create(mode), Outcome::Sent(1));
-            happens(rt, config, events, created, at);
+            play_event(rt, config, events, created, at);
             answered(rt, config, events, (1, Outcome::Taken(None)), at)
         }
         Step::Publishes(first, node, mode, readonly) => {

@@ -11,7 +11,7 @@ use Rattle.csi_types.specs.declared.reply.Reply.{Reply}
 use Rattle.csi_types.specs.Model.Config.{Config}
 use Rattle.csi_fence.specs.Model.Fence.{Kept}
 use Rattle.csi_fence.specs.Public.Lawful as lawful
-use Rattle.csi_fence.specs.Public.Lawful.{Plugin, TableLaw}
+use Rattle.csi_fence.specs.Public.Lawful.{PluginMachine, TableLaw}
 use Rattle.csi_types.specs.Model.Same.{has_capability}
 use Rattle.csi_controller.specs.Model.State.{Volume, ControllerState, empty_controller, live_volume, holding_at, is_row_for}
 use Rattle.csi_controller.specs.Model.Table.{controller_row}
@@ -74,7 +74,7 @@ pub record LeavesOthers (old new : ControllerState) (call : Call) : Type 0 where
   pub holdings : filter (is_of_another call) new.holdings ≡ filter (is_of_another call) old.holdings
 
 -- the controller, for the laws of its table
-abbrev pub plugin_with : Config → Plugin ControllerState
+abbrev pub plugin_with : Config → PluginMachine ControllerState
 plugin_with config =
     record {
       machine = controller_with config;

@@ -3,8 +3,8 @@ use Rattle.std.specs.Prelude.{◌≡◌, ◌<◌, ◌≤◌, ◌^◌, ◌++◌, 
 use Rattle.std.specs.Io.KnownBytes.{Consumes, IsAtEnd}
 use Rattle.csi_stores.specs.Public.Counting.{HasRisen}
 use Rattle.csi_frames.specs.Public.Bytes.{AreBytes}
-use Rattle.csi_driver.specs.declared.driver.Stop.{Stop}
-use Rattle.csi_driver.specs.declared.driver.Stop.TheVariants as stop
+use Rattle.csi_driver.specs.declared.driver.DriveStop.{DriveStop}
+use Rattle.csi_driver.specs.declared.driver.DriveStop.TheVariants as stop
 use Rattle.csi_driver.specs.Public.State.{State}
 
 -- a piece was taken, or it stops
@@ -19,14 +19,14 @@ Nexts Handled Rests Stops (Ok false) = Rests
 Nexts Handled Rests Stops (Err fault) = Stops fault
 
 -- the reader has ended; or it failed; or 2^63 bytes were read; or what takes the stream stopped
-abbrev pub Ends : {A S O F : Type 0} → (State A S O → List ℕ → State A S O → Type 0) → (State A S O → List ℕ → State A S O → F → Type 0) → State A S O → State A S O → List ℕ → Type 0 → Result (Unit {0}) (Stop F) → Type 0
+abbrev pub Ends : {A S O F : Type 0} → (State A S O → List ℕ → State A S O → Type 0) → (State A S O → List ℕ → State A S O → F → Type 0) → State A S O → State A S O → List ℕ → Type 0 → Result (Unit {0}) (DriveStop F) → Type 0
 Ends rests stops first now read at_end (Ok done) = at_end × rests first read now
 Ends rests stops first now read at_end (Err stop.Input) = rests first read now
 Ends rests stops first now read at_end (Err stop.Endless) = (2 ^ 63 ≤ length read) × rests first read now
 Ends rests stops first now read at_end (Err (stop.Consumer fault)) = stops first read now fault
 
 -- these bytes were read, and so it ended
-pub record Drives {A S O F : Type 0} (rests : State A S O → List ℕ → State A S O → Type 0) (stops : State A S O → List ℕ → State A S O → F → Type 0) (first now : State A S O) (left_before left_after : Option (List ℕ)) (result : Result (Unit {0}) (Stop F)) : Type 0 where
+pub record Drives {A S O F : Type 0} (rests : State A S O → List ℕ → State A S O → Type 0) (stops : State A S O → List ℕ → State A S O → F → Type 0) (first now : State A S O) (left_before left_after : Option (List ℕ)) (result : Result (Unit {0}) (DriveStop F)) : Type 0 where
   pub read : List ℕ
   pub are : AreBytes read
   pub few : length read < 2 ^ 64
@@ -39,7 +39,7 @@ DrivesSlice rests stops first now input (Ok done) = rests first input now
 DrivesSlice rests stops first now input (Err fault) = (fed behind : List ℕ) × (input ≡ fed ++ behind) × stops first fed now fault
 
 -- the reader failed at Input, and at no other end
-abbrev pub TellsReader : {A F : Type 0} → ℕ → ℕ → Result A (Stop F) → Type 0
+abbrev pub TellsReader : {A F : Type 0} → ℕ → ℕ → Result A (DriveStop F) → Type 0
 TellsReader before after (Ok a) = after ≡ before
 TellsReader before after (Err stop.Input) = HasRisen before after
 TellsReader before after (Err _) = after ≡ before

@@ -8,7 +8,7 @@ use Rattle.csi_frames.specs.declared.fault.FaultKind.TheVariants.{Short}
 use Rattle.csi_frames.specs.Public.Fault.{IsFaulty}
 use Rattle.csi_frames.specs.Public.Spelling.{spelling}
 use Rattle.csi_frames.specs.Public.Stream.{FramesOf}
-use Rattle.csi_driver.specs.declared.driver.Stop.{Stop}
+use Rattle.csi_driver.specs.declared.driver.DriveStop.{DriveStop}
 use Rattle.csi_driver.specs.declared.frames.FramesFault.{FramesFault}
 use Rattle.csi_driver.specs.declared.frames.FramesFault.TheVariants as faults
 use Rattle.csi_driver.specs.Public.State.{State}
@@ -45,7 +45,7 @@ abbrev pub Waits : List ℕ → Type 0
 Waits rest = IsFaulty rest Short (length rest)
 
 -- some bytes were read, which are frames and a rest, and so it ended
-pub record ReadsFrames {H S O F : Type 0} (handles : State H S O → ℕ → Frame → State H S O → Type 0) (flushes : State H S O → State H S O → Type 0) (is_flushed : H → Type 0) (stops : State H S O → Option Frame → State H S O → F → Type 0) (first now : State H S O) (count : ℕ) (left_before left_after : Option (List ℕ)) (result : Result (Unit {0}) (Stop (FramesFault F))) : Type 0 where
+pub record ReadsFrames {H S O F : Type 0} (handles : State H S O → ℕ → Frame → State H S O → Type 0) (flushes : State H S O → State H S O → Type 0) (is_flushed : H → Type 0) (stops : State H S O → Option Frame → State H S O → F → Type 0) (first now : State H S O) (count : ℕ) (left_before left_after : Option (List ℕ)) (result : Result (Unit {0}) (DriveStop (FramesFault F))) : Type 0 where
   pub read : List ℕ
   pub few : length read < 2 ^ 64
   pub consumed : Consumes left_before left_after read

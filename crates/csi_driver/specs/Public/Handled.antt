@@ -1,7 +1,7 @@
 -- What was handled of the items of a stream, frames or lines. This profile's own.
 use Rattle.std.specs.Prelude.{◌≡◌, ◌≤◌, ◌^◌, ℕ, List, length, take, slice_get, Option, Some, None, Result, Ok, Err}
-use Rattle.csi_driver.specs.declared.driver.Stop.{Stop}
-use Rattle.csi_driver.specs.declared.driver.Stop.TheVariants as stop
+use Rattle.csi_driver.specs.declared.driver.DriveStop.{DriveStop}
+use Rattle.csi_driver.specs.declared.driver.DriveStop.TheVariants as stop
 use Rattle.csi_driver.specs.Public.State.{State}
 
 -- all of these items were handled, and nothing waits to be written
@@ -23,7 +23,7 @@ IsBehind items count (Some item) = slice_get items count ≡ Some item
 
 -- How a reader's stream ends: as its items and its rest do; or the reader failed, or gave 2^63 bytes, where the rest is as it may be and all
 -- items were handled.
-abbrev pub EndsReading : {F : Type 0} → (Result (Unit {0}) F → Type 0) → Type 0 → Type 0 → List ℕ → Result (Unit {0}) (Stop F) → Type 0
+abbrev pub EndsReading : {F : Type 0} → (Result (Unit {0}) F → Type 0) → Type 0 → Type 0 → List ℕ → Result (Unit {0}) (DriveStop F) → Type 0
 EndsReading ends may_rest all_handled read (Ok done) = ends (Ok done)
 EndsReading ends may_rest all_handled read (Err stop.Input) = may_rest × all_handled
 EndsReading ends may_rest all_handled read (Err stop.Endless) = (2 ^ 63 ≤ length read) × may_rest × all_handled

@@ -1,7 +1,7 @@
 -- How the lines of a stream were handled, to its end. This profile's own.
 use Rattle.std.specs.Prelude.{◌≡◌, ◌<◌, ◌≤◌, ◌+◌, ◌^◌, ◌++◌, ◌⊎◌, ℕ, List, [], ◌∷◌, length, take, slice_get, Option, Some, Result, Ok, Err, IfSome}
 use Rattle.std.specs.Io.KnownBytes.{Consumes, IsAtEnd}
-use Rattle.csi_driver.specs.declared.driver.Stop.{Stop}
+use Rattle.csi_driver.specs.declared.driver.DriveStop.{DriveStop}
 use Rattle.csi_driver.specs.declared.lines.LinesFault.{LinesFault}
 use Rattle.csi_driver.specs.declared.lines.LinesFault.TheVariants as faults
 use Rattle.csi_driver.specs.Public.LinesOf.{LinesOf, IsShort, and_last}
@@ -36,7 +36,7 @@ EndsLines handles flushes is_flushed stops first now count lines rest at_end (Er
     HaltsAtLine handles flushes stops first now lines count fault ⊎ (at_end × HaltsAtLine handles flushes stops first now (and_last lines rest) count fault)
 
 -- some bytes were read, which are lines and a rest, and so it ended
-pub record ReadsLines {H S O F : Type 0} (handles : State H S O → ℕ → List ℕ → State H S O → Type 0) (flushes : State H S O → State H S O → Type 0) (is_flushed : H → Type 0) (stops : State H S O → Option (List ℕ) → State H S O → F → Type 0) (first now : State H S O) (count : ℕ) (left_before left_after : Option (List ℕ)) (result : Result (Unit {0}) (Stop (LinesFault F))) : Type 0 where
+pub record ReadsLines {H S O F : Type 0} (handles : State H S O → ℕ → List ℕ → State H S O → Type 0) (flushes : State H S O → State H S O → Type 0) (is_flushed : H → Type 0) (stops : State H S O → Option (List ℕ) → State H S O → F → Type 0) (first now : State H S O) (count : ℕ) (left_before left_after : Option (List ℕ)) (result : Result (Unit {0}) (DriveStop (LinesFault F))) : Type 0 where
   pub read : List ℕ
   pub few : length read < 2 ^ 64
   pub consumed : Consumes left_before left_after read

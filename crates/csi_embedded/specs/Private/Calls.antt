@@ -5,8 +5,8 @@ use Rattle.csi_types.specs.Model.Frame.{Frame}
 use Rattle.csi_frames.specs.Public.Spelling.{spelling, BeginsWith}
 use Rattle.csi_stores.specs.declared.part.Part.{Part}
 use Rattle.csi_service.specs.Public.Answering.{AppendsReply}
-use Rattle.csi_embedded.specs.declared.ending.Ending.{Ending}
-use Rattle.csi_embedded.specs.declared.plugin.Plugin.{Plugin}
+use Rattle.csi_embedded.specs.declared.ending.CallEnding.{CallEnding}
+use Rattle.csi_embedded.specs.declared.plugin.HeldPlugin.{HeldPlugin}
 use Rattle.csi_embedded.specs.Public.Plugins.{PluginAnswers}
 use Rattle.csi_embedded.specs.Public.Calls.{IsNoFrame}
 
@@ -20,7 +20,7 @@ changes_in (Some parts) = parts.items
 -- ---- a frame
 
 -- the frame that the bytes begin with was answered, with a reply of these bytes
-pub record AnswersFront (old : Plugin) (bytes : List ℕ) (new : Plugin) (rest : List ℕ) (before after : List ℕ) : Type 0 where
+pub record AnswersFront (old : HeldPlugin) (bytes : List ℕ) (new : HeldPlugin) (rest : List ℕ) (before after : List ℕ) : Type 0 where
   pub frame : Frame
   pub begins : BeginsWith bytes frame (length (spelling frame))
   pub left : rest ≡ drop (length (spelling frame)) bytes
@@ -28,6 +28,6 @@ pub record AnswersFront (old : Plugin) (bytes : List ℕ) (new : Plugin) (rest :
   pub answers : AppendsReply PluginAnswers old frame new before after replied
 
 -- the bytes begin with a frame that was answered, or they don't
-abbrev pub AnswersFirst : Plugin → List ℕ → Plugin → List ℕ → List ℕ → List ℕ → Result (Unit {0}) Ending → Type 0
+abbrev pub AnswersFirst : HeldPlugin → List ℕ → HeldPlugin → List ℕ → List ℕ → List ℕ → Result (Unit {0}) CallEnding → Type 0
 AnswersFirst old bytes new rest before after (Ok done) = AnswersFront old bytes new rest before after
 AnswersFirst old bytes new rest before after (Err ending) = IsNoFrame bytes ending

@@ -16,11 +16,11 @@ use Rattle.csi_recovery.specs.Public.Judged.{IsKeptOf, AreGiven, IsRecoveryRefus
 use Rattle.csi_world.specs.Public.Recovered.{GivenNode, recovered, MayRecover}
 use Rattle.csi_service.specs.Public.OrchestratorOpening.{opening_refusal}
 use Rattle.csi_service.specs.Public.OrchestratorServices.{ServedOrchestrator}
-use Rattle.csi_embedded.specs.declared.ending.Ending.{Ending}
-use Rattle.csi_embedded.specs.declared.ending.Ending.TheVariants.{NoMemory, Empty, BadName, Refused, OtherKind, SameNode, NotLater, Disagrees, BadRow}
+use Rattle.csi_embedded.specs.declared.ending.CallEnding.{CallEnding}
+use Rattle.csi_embedded.specs.declared.ending.CallEnding.TheVariants.{NoMemory, Empty, BadName, Refused, OtherKind, SameNode, NotLater, Disagrees, BadRow}
 use Rattle.csi_embedded.specs.declared.embedded.Embedded.{Embedded}
-use Rattle.csi_embedded.specs.declared.plugin.Plugin.{Plugin}
-use Rattle.csi_embedded.specs.declared.plugin.Plugin.TheVariants.{Controller, Node, Orchestrator}
+use Rattle.csi_embedded.specs.declared.plugin.HeldPlugin.{HeldPlugin}
+use Rattle.csi_embedded.specs.declared.plugin.HeldPlugin.TheVariants.{Controller, Node, Orchestrator}
 use Rattle.csi_embedded.specs.Public.Calls.{told_changes}
 use Rattle.csi_embedded.specs.Public.Plugins.{plugin_parts}
 use Rattle.csi_embedded.specs.Public.Recovering.{is_node}
@@ -28,19 +28,19 @@ use Rattle.csi_embedded.specs.Public.Recovering.{is_node}
 -- ---- records
 
 -- it is the controller's record: of each state that the controller shows
-abbrev pub IsControllerRecord : Plugin → RecordParts → Type 0
+abbrev pub IsControllerRecord : HeldPlugin → RecordParts → Type 0
 IsControllerRecord (Controller service) kept = (state : ControllerState) → Shows service.plugin state → IsKeptOf kept state
 IsControllerRecord (Node service) kept = ⊥
 IsControllerRecord (Orchestrator service) kept = ⊥
 
 -- it is the node's record: of its id, and of each state that the node shows
-abbrev pub IsNodeRecord : Plugin → NodeParts → Type 0
+abbrev pub IsNodeRecord : HeldPlugin → NodeParts → Type 0
 IsNodeRecord (Controller service) kept = ⊥
 IsNodeRecord (Node service) kept = (kept.id ≡ service.plugin.id) × ((state : NodeState) → NodeShows service.plugin state → NodeShows kept state)
 IsNodeRecord (Orchestrator service) kept = ⊥
 
 -- why there is none: it is of another kind, or memory ran out
-abbrev pub IsUnkept : (Plugin → Bool) → Plugin → Ending → Type 0
+abbrev pub IsUnkept : (HeldPlugin → Bool) → HeldPlugin → CallEnding → Type 0
 IsUnkept is plugin NoMemory = Unit {0}
 IsUnkept is plugin OtherKind = is plugin ≡ false
 IsUnkept is plugin _ = ⊥
@@ -48,12 +48,12 @@ IsUnkept is plugin _ = ⊥
 -- ---- the same of handles
 
 -- what the handle has has such a record
-abbrev pub HasRecord : {Kept : Type 0} → (Plugin → Kept → Type 0) → Option Embedded → Kept → Type 0
+abbrev pub HasRecord : {Kept : Type 0} → (HeldPlugin → Kept → Type 0) → Option Embedded → Kept → Type 0
 HasRecord Is None kept = ⊥
 HasRecord Is (Some embedded) kept = Is embedded.plugin kept
 
 -- why there is none: it has nothing, or none of that kind
-abbrev pub HasNoRecord : (Plugin → Bool) → Option Embedded → Ending → Type 0
+abbrev pub HasNoRecord : (HeldPlugin → Bool) → Option Embedded → CallEnding → Type 0
 HasNoRecord is None ending = ending ≡ Empty
 HasNoRecord is (Some embedded) ending = IsUnkept is embedded.plugin ending
 
@@ -65,7 +65,7 @@ HaveRecords (handle ∷ handles) [] = ⊥
 HaveRecords (handle ∷ handles) (kept ∷ others) = HasRecord IsNodeRecord handle kept × HaveRecords handles others
 
 -- why not all have one: some handle has nothing, or no node
-abbrev pub HaveNoRecords : List (Option Embedded) → Ending → Type 0
+abbrev pub HaveNoRecords : List (Option Embedded) → CallEnding → Type 0
 HaveNoRecords handles NoMemory = Unit {0}
 HaveNoRecords handles Empty = IsAmong None handles
 HaveNoRecords handles OtherKind = (embedded : Embedded) × IsAmong (Some embedded) handles × (is_node embedded.plugin ≡ false)
@@ -86,7 +86,7 @@ pub record IsMadeOf (nodes : List (List ℕ)) (session : ℕ) (controller : Reco
   pub told : told_changes made ≡ put_all (plugin_parts made.plugin)
 
 -- why there is none
-abbrev pub IsUnmadeOf : List (List ℕ) → ℕ → RecordParts → List NodeParts → ℕ → Ending → Type 0
+abbrev pub IsUnmadeOf : List (List ℕ) → ℕ → RecordParts → List NodeParts → ℕ → CallEnding → Type 0
 IsUnmadeOf nodes session controller given place NoMemory = Unit {0}
 IsUnmadeOf nodes session controller given place BadName = OfRecords controller given (λ state known. IsRecoveryRefusal nodes session state known faults.BadNodes)
 IsUnmadeOf nodes session controller given place SameNode = OfRecords controller given (λ state known. IsRecoveryRefusal nodes session state known (faults.SameNode place))
@@ -97,7 +97,7 @@ IsUnmadeOf nodes session controller given place Refused = OfRecords controller g
 IsUnmadeOf nodes session controller given place _ = ⊥
 
 -- how a call ends for which nothing was recovered, and the place that it tells
-abbrev pub EndsUnrecovered : RecoveryFault → ℕ → Ending → Type 0
+abbrev pub EndsUnrecovered : RecoveryFault → ℕ → CallEnding → Type 0
 EndsUnrecovered (faults.SameNode at) place ending = (ending ≡ SameNode) × (place ≡ at)
 EndsUnrecovered faults.NotLater place ending = ending ≡ NotLater
 EndsUnrecovered (faults.Disagrees at) place ending = (ending ≡ Disagrees) × (place ≡ at)
@@ -113,7 +113,7 @@ pub record IsOpenedNew (kept : OrchestratorKept) (nodes : List (List ℕ)) (made
   pub told : told_changes made ≡ put_all (plugin_parts made.plugin)
 
 -- why there is none
-abbrev pub IsNotOpenedNew : OrchestratorKept → List (List ℕ) → Ending → Type 0
+abbrev pub IsNotOpenedNew : OrchestratorKept → List (List ℕ) → CallEnding → Type 0
 IsNotOpenedNew kept nodes NoMemory = Unit {0}
 IsNotOpenedNew kept nodes BadName = AreNodesFit nodes → ⊥
 IsNotOpenedNew kept nodes Refused = (fault : OrchFault) × (opening_refusal kept nodes ≡ Some fault)

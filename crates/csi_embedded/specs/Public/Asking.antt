@@ -17,10 +17,10 @@ use Rattle.csi_stores.specs.Public.Content.{all_changed}
 use Rattle.csi_service.specs.Public.OrchestratorServices.{ServedOrchestrator, OrchestratorAnswers}
 use Rattle.csi_embedded.specs.declared.command.Command.{Command}
 use Rattle.csi_embedded.specs.declared.command.Command.TheVariants as commands
-use Rattle.csi_embedded.specs.declared.ending.Ending.{Ending}
-use Rattle.csi_embedded.specs.declared.ending.Ending.TheVariants.{Done, NoMemory, Empty, BadName, NoRoom, Refused, OtherKind, Met, Ignored, OlderStore}
+use Rattle.csi_embedded.specs.declared.ending.CallEnding.{CallEnding}
+use Rattle.csi_embedded.specs.declared.ending.CallEnding.TheVariants.{Done, NoMemory, Empty, BadName, NoRoom, Refused, OtherKind, Met, Ignored, OlderStore}
 use Rattle.csi_embedded.specs.declared.embedded.Embedded.{Embedded}
-use Rattle.csi_embedded.specs.declared.plugin.Plugin.TheVariants.{Orchestrator}
+use Rattle.csi_embedded.specs.declared.plugin.HeldPlugin.TheVariants.{Orchestrator}
 use Rattle.csi_embedded.specs.Public.Calls.{frame_front, told_changes, IsNoFrame, Remains}
 use Rattle.csi_embedded.specs.Public.Endings.{ending_number}
 use Rattle.csi_embedded.specs.Public.Plugins.{plugin_parts, is_orchestrator, IsStaleTo, IsTimelyTo}
@@ -28,13 +28,13 @@ use Rattle.csi_embedded.specs.Public.Plugins.{plugin_parts, is_orchestrator, IsS
 -- ---- what C hands over
 
 -- why these bytes are no text of this kind
-abbrev pub IsNoText : (List ℕ → Type 0) → List ℕ → Ending → Type 0
+abbrev pub IsNoText : (List ℕ → Type 0) → List ℕ → CallEnding → Type 0
 IsNoText Is bytes NoMemory = Unit {0}
 IsNoText Is bytes BadName = IsUtf8 bytes → Is bytes → ⊥
 IsNoText Is bytes _ = ⊥
 
 -- why nothing is handed over that is so: there is nothing, or memory ran out
-abbrev pub HasNone : {X : Type 0} → (X → Type 0) → Ending → Type 0
+abbrev pub HasNone : {X : Type 0} → (X → Type 0) → CallEnding → Type 0
 HasNone Is NoMemory = Unit {0}
 HasNone {X} Is BadName = (x : X) → Is x → ⊥
 HasNone Is _ = ⊥
@@ -109,7 +109,7 @@ pub record Carries {A : Type 0} (tells : A → Answer) (input : Input) (old : Em
 -- ---- how a call ends
 
 -- a refusal, by its number; or memory ran out
-abbrev pub EndsRefused : OrchFault → ℕ → Ending → Type 0
+abbrev pub EndsRefused : OrchFault → ℕ → CallEnding → Type 0
 EndsRefused why number ending =
     ((ending ≡ NoMemory) × (why ≡ faults.NoMemory)) ⊎ ((ending ≡ Refused) × (why ≢ faults.NoMemory) × (number ≡ refusal_number why))
 
@@ -119,19 +119,19 @@ GivesFrame (Some frame) count bytes = Spells frame bytes × (count ≡ length by
 GivesFrame None count bytes = count ≡ 0
 
 -- of a command or a timeout: a frame is to be sent, or what is asked is so already, or it is refused
-abbrev pub EndsAsked : Result (Option Frame) OrchFault → ℕ → List ℕ → ℕ → Ending → Type 0
+abbrev pub EndsAsked : Result (Option Frame) OrchFault → ℕ → List ℕ → ℕ → CallEnding → Type 0
 EndsAsked (Ok (Some frame)) count bytes fault ending = (ending ≡ Done) × GivesFrame (Some frame) count bytes
 EndsAsked (Ok None) count bytes fault ending = (ending ≡ Met) × GivesFrame None count bytes
 EndsAsked (Err why) count bytes fault ending = EndsRefused why fault ending
 
 -- of a frame that came: it is taken, and the next may be to be sent; or it is ignored, or refused
-abbrev pub EndsHeard : Result Heard OrchFault → ℕ → List ℕ → ℕ → Ending → Type 0
+abbrev pub EndsHeard : Result Heard OrchFault → ℕ → List ℕ → ℕ → CallEnding → Type 0
 EndsHeard (Ok (heards.Taken sent)) count bytes fault ending = (ending ≡ Done) × GivesFrame sent count bytes
 EndsHeard (Ok heards.Ignored) count bytes fault ending = (ending ≡ Ignored) × GivesFrame None count bytes
 EndsHeard (Err why) count bytes fault ending = EndsRefused why fault ending
 
 -- a command or a timeout was asked that is so, and the call ended by what became of it
-pub record IsAsked (Is : Input → Type 0) (old new : Embedded) (count : ℕ) (bytes : List ℕ) (fault : ℕ) (ending : Ending) : Type 0 where
+pub record IsAsked (Is : Input → Type 0) (old new : Embedded) (count : ℕ) (bytes : List ℕ) (fault : ℕ) (ending : CallEnding) : Type 0 where
   pub input : Input
   pub such : Is input
   pub told : Result (Option Frame) OrchFault
@@ -139,15 +139,15 @@ pub record IsAsked (Is : Input → Type 0) (old new : Embedded) (count : ℕ) (b
   pub ends : EndsAsked told count bytes fault ending
 
 -- why none was: there is too little room, or the handle has a plugin, or C handed over none that is so, or memory ran out
-abbrev pub IsUnasked : (Input → Type 0) → Embedded → ℕ → Ending → Type 0
+abbrev pub IsUnasked : (Input → Type 0) → Embedded → ℕ → CallEnding → Type 0
 IsUnasked Is old room ending = ((ending ≡ NoRoom) × (room < 1284)) ⊎ (((ending ≡ OtherKind) × (is_orchestrator old.plugin ≡ false)) ⊎ HasNone Is ending)
 
 -- one of these; where none was asked, all is as it was
-abbrev pub AsksOne : (Input → Type 0) → Embedded → Embedded → ℕ → ℕ → List ℕ → ℕ → Ending → Type 0
+abbrev pub AsksOne : (Input → Type 0) → Embedded → Embedded → ℕ → ℕ → List ℕ → ℕ → CallEnding → Type 0
 AsksOne Is old new room count bytes fault ending = IsAsked Is old new count bytes fault ending ⊎ (IsUnasked Is old room ending × Remains old new)
 
 -- the frame that the bytes begin with came, says of no open call that it was stale, and took so many of them, and the call ended by what became of it
-pub record IsHeard (old : Embedded) (came : List ℕ) (used : ℕ) (new : Embedded) (count : ℕ) (bytes : List ℕ) (fault : ℕ) (ending : Ending) : Type 0 where
+pub record IsHeard (old : Embedded) (came : List ℕ) (used : ℕ) (new : Embedded) (count : ℕ) (bytes : List ℕ) (fault : ℕ) (ending : CallEnding) : Type 0 where
   pub frame : Frame
   pub begins : BeginsWith (frame_front came) frame used
   pub timely : IsTimelyTo frame old.plugin
@@ -156,26 +156,26 @@ pub record IsHeard (old : Embedded) (came : List ℕ) (used : ℕ) (new : Embedd
   pub ends : EndsHeard told count bytes fault ending
 
 -- why none came: there is too little room, or the handle has a plugin, or there is no frame, or memory ran out
-abbrev pub IsUnheard : Embedded → List ℕ → ℕ → Ending → Type 0
+abbrev pub IsUnheard : Embedded → List ℕ → ℕ → CallEnding → Type 0
 IsUnheard old came room ending =
     ((ending ≡ NoRoom) × (room < 1284)) ⊎ (((ending ≡ OtherKind) × (is_orchestrator old.plugin ≡ false)) ⊎ IsNoFrame (frame_front came) ending)
 
 -- or the frame that the bytes begin with, and that took so many of them, says of an open call that it was stale
-pub record IsOfOlder (old : Embedded) (came : List ℕ) (used : ℕ) (ending : Ending) : Type 0 where
+pub record IsOfOlder (old : Embedded) (came : List ℕ) (used : ℕ) (ending : CallEnding) : Type 0 where
   pub frame : Frame
   pub begins : BeginsWith (frame_front came) frame used
   pub stale : IsStaleTo frame old.plugin
   pub ends : ending ≡ OlderStore
 
 -- one of these; where none came, or that one, all is as it was
-abbrev pub HearsOne : Embedded → List ℕ → ℕ → Embedded → ℕ → ℕ → List ℕ → ℕ → Ending → Type 0
+abbrev pub HearsOne : Embedded → List ℕ → ℕ → Embedded → ℕ → ℕ → List ℕ → ℕ → CallEnding → Type 0
 HearsOne old came used new room count bytes fault ending =
     IsHeard old came used new count bytes fault ending ⊎ ((IsUnheard old came room ending ⊎ IsOfOlder old came used ending) × Remains old new)
 
 -- ---- the same of handles
 
 -- an empty handle stays so; else its orchestrator was asked, or not
-abbrev pub HandleAsks : (Input → Type 0) → Option Embedded → Option Embedded → ℕ → ℕ → List ℕ → ℕ → Ending → Type 0
+abbrev pub HandleAsks : (Input → Type 0) → Option Embedded → Option Embedded → ℕ → ℕ → List ℕ → ℕ → CallEnding → Type 0
 HandleAsks Is (Some old) (Some new) room count bytes fault ending = AsksOne Is old new room count bytes fault ending
 HandleAsks Is None None room count bytes fault ending = ending ≡ Empty
 HandleAsks Is (Some old) None room count bytes fault ending = ⊥
@@ -183,12 +183,12 @@ HandleAsks Is None (Some new) room count bytes fault ending = ⊥
 
 -- and the number is that of the ending
 pub record HasAsked (Is : Input → Type 0) (old new : Option Embedded) (room count : ℕ) (bytes : List ℕ) (fault number : ℕ) : Type 0 where
-  pub ending : Ending
+  pub ending : CallEnding
   pub is : number ≡ ending_number ending
   pub asks : HandleAsks Is old new room count bytes fault ending
 
 -- the same of a frame that came
-abbrev pub HandleHears : List ℕ → Option Embedded → ℕ → Option Embedded → ℕ → ℕ → List ℕ → ℕ → Ending → Type 0
+abbrev pub HandleHears : List ℕ → Option Embedded → ℕ → Option Embedded → ℕ → ℕ → List ℕ → ℕ → CallEnding → Type 0
 HandleHears came (Some old) used (Some new) room count bytes fault ending = HearsOne old came used new room count bytes fault ending
 HandleHears came None used None room count bytes fault ending = ending ≡ Empty
 HandleHears came (Some old) used None room count bytes fault ending = ⊥
@@ -196,6 +196,6 @@ HandleHears came None used (Some new) room count bytes fault ending = ⊥
 
 -- and its number
 pub record HasHeard (came : List ℕ) (old : Option Embedded) (used : ℕ) (new : Option Embedded) (room count : ℕ) (bytes : List ℕ) (fault number : ℕ) : Type 0 where
-  pub ending : Ending
+  pub ending : CallEnding
   pub is : number ≡ ending_number ending
   pub hears : HandleHears came old used new room count bytes fault ending

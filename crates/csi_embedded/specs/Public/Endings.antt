@@ -1,10 +1,10 @@
 -- The number of each ending, as a C program sees it. This profile's own.
 use Rattle.std.specs.Prelude.{ℕ}
-use Rattle.csi_embedded.specs.declared.ending.Ending.{Ending}
-use Rattle.csi_embedded.specs.declared.ending.Ending.TheVariants.{Done, NoMemory, Empty, Full, BadName, BadRecord, Short, BadFrame, NoRoom, Renewed, TakenOut, NoMore, Refused, OtherKind, Met, Ignored, EarlierSession, NodeInUse, OlderStore, SameNode, NotLater, Disagrees, BadRow}
+use Rattle.csi_embedded.specs.declared.ending.CallEnding.{CallEnding}
+use Rattle.csi_embedded.specs.declared.ending.CallEnding.TheVariants.{Done, NoMemory, Empty, Full, BadName, BadRecord, Short, BadFrame, NoRoom, Renewed, TakenOut, NoMore, Refused, OtherKind, Met, Ignored, EarlierSession, NodeInUse, OlderStore, SameNode, NotLater, Disagrees, BadRow}
 
 -- an ending's number
-abbrev pub ending_number : Ending → ℕ
+abbrev pub ending_number : CallEnding → ℕ
 ending_number Done = 0
 ending_number NoMemory = 1
 ending_number Empty = 2

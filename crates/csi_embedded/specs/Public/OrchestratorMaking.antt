@@ -20,10 +20,10 @@ use Rattle.csi_records.specs.Public.Records.{IsRecordOf}
 use Rattle.csi_records.specs.Public.Spelling.{present}
 use Rattle.csi_service.specs.Public.OrchestratorOpening.{new_record, raised_before, opening_refusal}
 use Rattle.csi_service.specs.Public.OrchestratorServices.{ServedOrchestrator, session_changes}
-use Rattle.csi_embedded.specs.declared.ending.Ending.{Ending}
-use Rattle.csi_embedded.specs.declared.ending.Ending.TheVariants.{NoMemory, BadName, BadRecord, Refused, NodeInUse}
+use Rattle.csi_embedded.specs.declared.ending.CallEnding.{CallEnding}
+use Rattle.csi_embedded.specs.declared.ending.CallEnding.TheVariants.{NoMemory, BadName, BadRecord, Refused, NodeInUse}
 use Rattle.csi_embedded.specs.declared.embedded.Embedded.{Embedded}
-use Rattle.csi_embedded.specs.declared.plugin.Plugin.TheVariants.{Orchestrator}
+use Rattle.csi_embedded.specs.declared.plugin.HeldPlugin.TheVariants.{Orchestrator}
 use Rattle.csi_embedded.specs.Public.Calls.{told_changes}
 
 -- the ids of a configuration's nodes, in order
@@ -79,13 +79,13 @@ pub record IsOpenedOrchestrator (text bytes : List ℕ) (session : ℕ) (made : 
   pub reopened : IsReopened (raised_before session kept) nodes made
 
 -- why no nodes are said
-abbrev pub IsNoNodes : List ℕ → Ending → Type 0
+abbrev pub IsNoNodes : List ℕ → CallEnding → Type 0
 IsNoNodes text NoMemory = Unit {0}
 IsNoNodes text BadName = IsUtf8 text → (nodes : List (List ℕ)) → AreNodesOf text nodes → ⊥
 IsNoNodes text _ = ⊥
 
 -- why there is no new orchestrator: none are said, or no orchestrator has them
-abbrev pub IsNoOrchestrator : List ℕ → Ending → Type 0
+abbrev pub IsNoOrchestrator : List ℕ → CallEnding → Type 0
 IsNoOrchestrator text NoMemory = Unit {0}
 IsNoOrchestrator text BadName = IsUtf8 text → (nodes : List (List ℕ)) → AreNodesOf text nodes → AreNodesFit nodes → ⊥
 IsNoOrchestrator text _ = ⊥
@@ -100,7 +100,7 @@ pub record IsRefusedAfter (fault : OrchFault) (text bytes : List ℕ) : Type 0 w
 
 -- why there is none of a record: no nodes are said that an orchestrator has; or the bytes are no orchestrator's record in any version; or no session is
 -- left; or a volume may be attached at a node that the text leaves out
-abbrev pub IsNoReadOrchestrator : List ℕ → List ℕ → Ending → Type 0
+abbrev pub IsNoReadOrchestrator : List ℕ → List ℕ → CallEnding → Type 0
 IsNoReadOrchestrator text bytes NoMemory = Unit {0}
 IsNoReadOrchestrator text bytes BadName = IsNoOrchestrator text BadName
 IsNoReadOrchestrator text bytes BadRecord = (place : ℕ) × IsBadAt (λ v. IsRecordOf (orchestrator_layout v)) bytes place
@@ -117,7 +117,7 @@ pub record IsUnopenedAfter (fault : OrchFault) (text bytes : List ℕ) (session 
   pub refused : opening_refusal (raised_before session kept) nodes ≡ Some fault
 
 -- why there is none in a session that is named: as of a record
-abbrev pub IsNotOpened : List ℕ → List ℕ → ℕ → Ending → Type 0
+abbrev pub IsNotOpened : List ℕ → List ℕ → ℕ → CallEnding → Type 0
 IsNotOpened text bytes session NoMemory = Unit {0}
 IsNotOpened text bytes session BadName = IsNoOrchestrator text BadName
 IsNotOpened text bytes session BadRecord = (place : ℕ) × IsBadAt (λ v. IsRecordOf (orchestrator_layout v)) bytes place

@@ -12,35 +12,35 @@ use Rattle.csi_stores.specs.Public.Part.{StoredPart, StoredChange}
 use Rattle.csi_records.specs.Public.Spelling.{present, controller_parts, volume_row, record_bytes}
 use Rattle.csi_service.specs.Public.Services.{ControllerService, controller_service_parts, controller_service_changes, ControllerAnswers, NodeService, node_service_parts, node_service_changes, NodeServiceAnswers}
 use Rattle.csi_service.specs.Public.OrchestratorServices.{ServedOrchestrator, orchestrator_service_parts, orchestrator_service_changes, IsToldStale, IsTimely}
-use Rattle.csi_embedded.specs.declared.plugin.Plugin.{Plugin}
-use Rattle.csi_embedded.specs.declared.plugin.Plugin.TheVariants.{Controller, Node, Orchestrator}
+use Rattle.csi_embedded.specs.declared.plugin.HeldPlugin.{HeldPlugin}
+use Rattle.csi_embedded.specs.declared.plugin.HeldPlugin.TheVariants.{Controller, Node, Orchestrator}
 
 -- whether it is an orchestrator
-abbrev pub is_orchestrator : Plugin → Bool
+abbrev pub is_orchestrator : HeldPlugin → Bool
 is_orchestrator (Controller service) = false
 is_orchestrator (Node service) = false
 is_orchestrator (Orchestrator service) = true
 
 -- the orchestrator, if it is one
-abbrev pub orchestrator_of : Plugin → Option OrchestratorParts
+abbrev pub orchestrator_of : HeldPlugin → Option OrchestratorParts
 orchestrator_of (Controller service) = None
 orchestrator_of (Node service) = None
 orchestrator_of (Orchestrator service) = Some service.orchestrator
 
 -- the parts of its record
-abbrev pub plugin_parts : Plugin → List StoredPart
+abbrev pub plugin_parts : HeldPlugin → List StoredPart
 plugin_parts (Controller service) = controller_service_parts service
 plugin_parts (Node service) = node_service_parts service
 plugin_parts (Orchestrator service) = orchestrator_service_parts service
 
 -- what its last call changed
-abbrev pub plugin_changes : Plugin → List StoredChange
+abbrev pub plugin_changes : HeldPlugin → List StoredChange
 plugin_changes (Controller service) = controller_service_changes service
 plugin_changes (Node service) = node_service_changes service
 plugin_changes (Orchestrator service) = orchestrator_service_changes service
 
 -- a frame gets this reply, or none, and leads from one plugin to the other: reply and state are those of the fence over the plugin's table
-abbrev pub PluginAnswers : Plugin → Frame → Option Frame → Plugin → Type 0
+abbrev pub PluginAnswers : HeldPlugin → Frame → Option Frame → HeldPlugin → Type 0
 PluginAnswers (Controller old) frame reply (Controller new) = ControllerAnswers old frame reply new
 PluginAnswers (Node old) frame reply (Node new) = NodeServiceAnswers old frame reply new
 PluginAnswers (Controller old) frame reply (Node new) = ⊥
@@ -50,13 +50,13 @@ PluginAnswers (Node old) frame reply (Orchestrator new) = ⊥
 PluginAnswers (Orchestrator old) frame reply new = ⊥
 
 -- a frame says of an open call of the orchestrator that it was stale: its store is an older one
-abbrev pub IsStaleTo : Frame → Plugin → Type 0
+abbrev pub IsStaleTo : Frame → HeldPlugin → Type 0
 IsStaleTo frame (Controller service) = ⊥
 IsStaleTo frame (Node service) = ⊥
 IsStaleTo frame (Orchestrator service) = IsToldStale frame service
 
 -- it says so of none
-abbrev pub IsTimelyTo : Frame → Plugin → Type 0
+abbrev pub IsTimelyTo : Frame → HeldPlugin → Type 0
 IsTimelyTo frame (Controller service) = Unit {0}
 IsTimelyTo frame (Node service) = Unit {0}
 IsTimelyTo frame (Orchestrator service) = IsTimely frame service
@@ -81,7 +81,7 @@ pub record IsSameOrchestratorService (old new : ServedOrchestrator) : Type 0 whe
   pub orchestrator : new.orchestrator ≡ old.orchestrator
 
 -- it is as it was: its state, its record, and what a plugin's last call changed
-abbrev pub IsAsItWas : Plugin → Plugin → Type 0
+abbrev pub IsAsItWas : HeldPlugin → HeldPlugin → Type 0
 IsAsItWas (Controller old) (Controller new) = IsSameControllerService old new
 IsAsItWas (Node old) (Node new) = IsSameNodeService old new
 IsAsItWas (Orchestrator old) (Orchestrator new) = IsSameOrchestratorService old new
@@ -101,7 +101,7 @@ pub record AreControllerRecordBytes (service : ControllerService) (bytes : List 
   pub spelled : bytes ≡ record_bytes present (controller_parts present kept.next_id (Some kept.session) (map volume_row kept.rows))
 
 -- the bytes of its whole record, in the present version
-abbrev pub IsPluginRecord : Plugin → List ℕ → Type 0
+abbrev pub IsPluginRecord : HeldPlugin → List ℕ → Type 0
 IsPluginRecord (Controller service) bytes = AreControllerRecordBytes service bytes
 IsPluginRecord (Node service) bytes = bytes ≡ record_bytes present (node_service_parts service)
 IsPluginRecord (Orchestrator service) bytes = bytes ≡ record_bytes present (orchestrator_service_parts service)

@@ -11,12 +11,12 @@ use Rattle.csi_recovery.specs.Public.Judged.{IsRecoveryRefusal}
 use Rattle.csi_world.specs.Public.Recovered.{GivenNode, recovered, MayRecover}
 use Rattle.csi_recovery.specs.Public.Session.{recovery_session}
 use Rattle.csi_service.specs.Public.OrchestratorServices.{ServedOrchestrator}
-use Rattle.csi_embedded.specs.declared.ending.Ending.{Ending}
-use Rattle.csi_embedded.specs.declared.ending.Ending.TheVariants.{Done, NoMemory, Empty, BadName, Refused, OtherKind, SameNode, NotLater, Disagrees, BadRow}
+use Rattle.csi_embedded.specs.declared.ending.CallEnding.{CallEnding}
+use Rattle.csi_embedded.specs.declared.ending.CallEnding.TheVariants.{Done, NoMemory, Empty, BadName, Refused, OtherKind, SameNode, NotLater, Disagrees, BadRow}
 use Rattle.csi_embedded.specs.declared.embedded.Embedded.{Embedded}
 use Rattle.csi_embedded.specs.declared.handle.Handle.{Handle}
-use Rattle.csi_embedded.specs.declared.plugin.Plugin.{Plugin}
-use Rattle.csi_embedded.specs.declared.plugin.Plugin.TheVariants.{Controller, Node, Orchestrator}
+use Rattle.csi_embedded.specs.declared.plugin.HeldPlugin.{HeldPlugin}
+use Rattle.csi_embedded.specs.declared.plugin.HeldPlugin.TheVariants.{Controller, Node, Orchestrator}
 use Rattle.csi_embedded.specs.Public.Calls.{told_changes}
 use Rattle.csi_embedded.specs.Public.Endings.{ending_number}
 use Rattle.csi_embedded.specs.Public.OrchestratorMaking.{AreNodesOf, IsNoNodes}
@@ -29,25 +29,25 @@ abbrev pub had_by : List Handle → List (Option Embedded)
 had_by handles = map (λ handle. handle.held.embedded) handles
 
 -- whether it is a controller
-abbrev pub is_controller : Plugin → Bool
+abbrev pub is_controller : HeldPlugin → Bool
 is_controller (Controller service) = true
 is_controller (Node service) = false
 is_controller (Orchestrator service) = false
 
 -- whether it is a node
-abbrev pub is_node : Plugin → Bool
+abbrev pub is_node : HeldPlugin → Bool
 is_node (Controller service) = false
 is_node (Node service) = true
 is_node (Orchestrator service) = false
 
 -- it is a controller of this state
-abbrev pub ShowsController : Plugin → ControllerState → Type 0
+abbrev pub ShowsController : HeldPlugin → ControllerState → Type 0
 ShowsController (Controller service) state = Shows service.plugin state
 ShowsController (Node service) state = ⊥
 ShowsController (Orchestrator service) state = ⊥
 
 -- it is this node
-abbrev pub ShowsNode : Plugin → GivenNode → Type 0
+abbrev pub ShowsNode : HeldPlugin → GivenNode → Type 0
 ShowsNode (Controller service) node = ⊥
 ShowsNode (Node service) node = (node.id ≡ service.plugin.id) × NodeShows service.plugin node.state
 ShowsNode (Orchestrator service) node = ⊥
@@ -85,7 +85,7 @@ IsSomeOther controller nodes =
 -- ---- the session
 
 -- that of the recovery, by all that was heard of; or there is none left
-abbrev pub TellsSession : ℕ → Option Embedded → List (Option Embedded) → ℕ → Ending → Type 0
+abbrev pub TellsSession : ℕ → Option Embedded → List (Option Embedded) → ℕ → CallEnding → Type 0
 TellsSession known controller nodes session Done = OfThese controller nodes (λ state given. recovery_session known state given ≡ Some session)
 TellsSession known controller nodes session Refused = OfThese controller nodes (λ state given. recovery_session known state given ≡ None)
 TellsSession known controller nodes session NoMemory = Unit {0}
@@ -95,7 +95,7 @@ TellsSession known controller nodes session _ = ⊥
 
 -- and the number is that of the ending
 pub record HasSession (known : ℕ) (controller : Option Embedded) (nodes : List (Option Embedded)) (session number : ℕ) : Type 0 where
-  pub ending : Ending
+  pub ending : CallEnding
   pub is : number ≡ ending_number ending
   pub tells : TellsSession known controller nodes session ending
 
@@ -119,7 +119,7 @@ pub record IsRecoveryRefused (fault : RecoveryFault) (text : List ℕ) (session 
   pub refused : OfThese controller nodes (λ state given. IsRecoveryRefusal listed session state given fault)
 
 -- or no nodes are said; or some handle hasn't what it should; or the session is the last one
-abbrev pub IsNotRecovered : List ℕ → ℕ → Option Embedded → List (Option Embedded) → ℕ → Ending → Type 0
+abbrev pub IsNotRecovered : List ℕ → ℕ → Option Embedded → List (Option Embedded) → ℕ → CallEnding → Type 0
 IsNotRecovered text session controller nodes place NoMemory = Unit {0}
 IsNotRecovered text session controller nodes place BadName = IsNoNodes text BadName ⊎ IsRecoveryRefused faults.BadNodes text session controller nodes
 IsNotRecovered text session controller nodes place Empty = IsSomeEmpty controller nodes

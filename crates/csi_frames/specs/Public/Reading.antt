@@ -25,7 +25,7 @@ use Rattle.csi_frames.specs.declared.fault.FaultKind.TheVariants.{Short, TooLong
 use Rattle.csi_frames.specs.declared.fault.FrameFault.{FrameFault}
 use Rattle.csi_frames.specs.declared.body_kind.BodyKind.{BodyKind}
 use Rattle.csi_frames.specs.declared.body_kind.BodyKind.TheVariants as body_kinds
-use Rattle.csi_frames.specs.declared.fields.Stop.{Stop}
+use Rattle.csi_frames.specs.declared.fields.FieldStop.{FieldStop}
 use Rattle.csi_frames.specs.declared.version.Version.{Version}
 use Rattle.csi_frames.specs.Public.Version.{is_new_mode, owes_new_mode}
 use Rattle.csi_frames.specs.Public.Codes.{is_version, version_of, is_mode, mode_of, is_status, status_of, is_body_kind, body_kind_of}
@@ -33,10 +33,10 @@ use Rattle.csi_frames.specs.Public.Grammar.{any, at_most, is_count, is_reply_id,
 
 -- a value and the bytes after it, or where reading stopped
 abbrev pub Reader : Type 0 → Type 0
-Reader A = List ℕ → Result (A × List ℕ) Stop
+Reader A = List ℕ → Result (A × List ℕ) FieldStop
 
 -- where a value was read, reading goes on with the next reader
-abbrev pub go_on : {A B : Type 0} → Result (A × List ℕ) Stop → (A → Reader B) → Result (B × List ℕ) Stop
+abbrev pub go_on : {A B : Type 0} → Result (A × List ℕ) FieldStop → (A → Reader B) → Result (B × List ℕ) FieldStop
 go_on (Ok read) next = next read.0 read.1
 go_on (Err stop) next = Err stop
 
@@ -50,7 +50,7 @@ abbrev pub give : {A : Type 0} → A → Reader A
 give value bytes = Ok (value, bytes)
 
 -- the fault of the field that begins these bytes
-abbrev pub stopped_at_field : {A : Type 0} → FaultKind → List ℕ → Result A Stop
+abbrev pub stopped_at_field : {A : Type 0} → FaultKind → List ℕ → Result A FieldStop
 stopped_at_field kind bytes = Err (record { kind = kind; left = length bytes })
 
 -- ---- fields
@@ -245,7 +245,7 @@ frame_at = do
   give (record { number = number; party = party; body = body })
 
 -- all of the bytes
-abbrev pub whole_frame : Result (Frame × List ℕ) Stop → Result Frame Stop
+abbrev pub whole_frame : Result (Frame × List ℕ) FieldStop → Result Frame FieldStop
 whole_frame (Ok (frame, [])) = Ok frame
 whole_frame (Ok (frame, b ∷ bytes)) = stopped_at_field LengthDiffers (b ∷ bytes)
 whole_frame (Err stop) = Err stop
@@ -257,7 +257,7 @@ abbrev pub fault : {A : Type 0} → FaultKind → ℕ → Result A FrameFault
 fault kind place = Err (record { kind = kind; place = place })
 
 -- a frame with the count of its bytes, or the fault with its place counted from the front
-abbrev pub placed_frame : ℕ → Result Frame Stop → Result (Frame × ℕ) FrameFault
+abbrev pub placed_frame : ℕ → Result Frame FieldStop → Result (Frame × ℕ) FrameFault
 placed_frame size (Ok frame) = Ok (frame, size)
 placed_frame size (Err stop) = fault stop.kind (size - stop.left)
 

@@ -12,8 +12,8 @@ use Rattle.csi_json.specs.declared.fault.ScheduleFault.TheVariants.{NotJson, Bad
 use Rattle.csi_json.specs.Public.Json.{◌>>=◌, number_of, node_id_of, sized_object, all_of}
 
 -- a node of a configuration: an object of an id and a count of slots
-unfoldable pub node_of : Data → Option NodeSlots
-node_of d = do
+unfoldable pub node_slots_of : Data → Option NodeSlots
+node_slots_of d = do
   object ← sized_object 2 d
   id ← get (codes "id") object >>= node_id_of
   slots ← get (codes "slots") object >>= number_of
@@ -29,7 +29,7 @@ unfoldable pub config_of : Data → Option Config
 config_of d = do
   object ← sized_object 2 d
   greatest ← get (codes "greatest") object >>= number_of
-  nodes ← get (codes "nodes") object >>= all_of node_of
+  nodes ← get (codes "nodes") object >>= all_of node_slots_of
   faultless (record { greatest = greatest; nodes = nodes }) (config_fault greatest nodes)
 
 -- ---- a configuration alone

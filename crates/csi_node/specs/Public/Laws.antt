@@ -4,7 +4,7 @@ use Rattle.std.specs.Prelude.{◌≡◌, ◌⊎◌, ℕ, ◌==◌, List, [], ◌
 use Rattle.csi_types.specs.declared.call.Call.{Call}
 use Rattle.csi_types.specs.declared.call.Call.TheVariants as calls
 use Rattle.csi_types.specs.declared.reply.Reply.{Reply}
-use Rattle.csi_fence.specs.Public.Lawful.{Plugin, TableLaw}
+use Rattle.csi_fence.specs.Public.Lawful.{PluginMachine, TableLaw}
 use Rattle.csi_node.specs.Model.State.{NodeState, AnsweredVolume, PublishedVolume, joined_node, staged_of, published_at, volume_of}
 use Rattle.csi_node.specs.Model.Table.{node_row}
 use Rattle.csi_node.specs.Model.Fenced.{node_at}
@@ -53,7 +53,7 @@ pub record LeavesOthers (old new : NodeState) (call : Call) : Type 0 where
   pub published : filter (λ published. is_another (volume_of call) published.volume) new.published ≡ filter (λ published. is_another (volume_of call) published.volume) old.published
 
 -- the node of this id, for the laws of its table
-abbrev pub plugin_at : List ℕ → Plugin NodeState
+abbrev pub plugin_at : List ℕ → PluginMachine NodeState
 plugin_at node =
     record {
       machine = node_at node;

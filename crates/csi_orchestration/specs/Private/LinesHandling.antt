@@ -3,8 +3,8 @@ use Rattle.std.specs.Prelude.{◌≡◌, ℕ, List, Bool, true, Option, Some, if
 use Rattle.csi_stores.specs.declared.counted.Counted.{Counted}
 use Rattle.csi_stores.specs.Public.Part.{StoredPart}
 use Rattle.csi_stores.specs.Public.Stores.{Store}
-use Rattle.csi_driver.specs.declared.driver.Stop.{Stop}
-use Rattle.csi_driver.specs.declared.driver.Stop.TheVariants as stop
+use Rattle.csi_driver.specs.declared.driver.DriveStop.{DriveStop}
+use Rattle.csi_driver.specs.declared.driver.DriveStop.TheVariants as stop
 use Rattle.csi_driver.specs.declared.lines.LinesFault.{LinesFault}
 use Rattle.csi_driver.specs.declared.lines.LinesFault.TheVariants as lines_faults
 use Rattle.csi_driver.specs.declared.waiting.AnswerFault.{AnswerFault}
@@ -15,11 +15,11 @@ use Rattle.csi_driver.specs.Public.Waiting.{Settling, Settles, StopsAt}
 use Rattle.csi_driver.specs.Public.Answering.{IsAnswered}
 use Rattle.csi_orchestration.specs.declared.lines_serving.fault.LinesServeFaultKind.{LinesServeFaultKind}
 use Rattle.csi_orchestration.specs.declared.lines_serving.fault.LinesServeFaultKind.TheVariants as kinds
-use Rattle.csi_orchestration.specs.declared.lines_serving.handling.Answering.{Answering}
+use Rattle.csi_orchestration.specs.declared.lines_serving.handling.ResponderHandler.{ResponderHandler}
 
 -- a responder, the store under it, and its writer
 abbrev pub Serving : Type 0 → Type 0 → Type 0 → Type 0
-Serving C K W = State (Answering C) K (Counted W)
+Serving C K W = State (ResponderHandler C) K (Counted W)
 
 -- what waits of it
 abbrev pub waiting_of : {C K W : Type 0} → Serving C K W → Settling K W
@@ -50,7 +50,7 @@ handler_stopped_by is_older (why.Keep fault) = kinds.Keep fault
 handler_stopped_by is_older why.Output = kinds.Output
 
 -- why serving stops
-abbrev pub stopped_by : Bool → Stop (LinesFault AnswerFault) → LinesServeFaultKind
+abbrev pub stopped_by : Bool → DriveStop (LinesFault AnswerFault) → LinesServeFaultKind
 stopped_by is_older stop.Input = kinds.Input
 stopped_by is_older stop.Endless = kinds.Endless
 stopped_by is_older (stop.Consumer (lines_faults.Long number)) = kinds.Long number

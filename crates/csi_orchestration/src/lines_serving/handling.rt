@@ -9,14 +9,14 @@ ghost use Rattle.csi_orchestration.specs.Private.LinesHandling.{always, IsHandle
 
 use crate::lines_serving::fault::{LinesServeFault, LinesServeFaultKind};
 use crate::responder::{Responder, Unanswered};
-use csi_driver::{AnswerFault, LineHandler, LinesFault, Stop, Waiting};
+use csi_driver::{AnswerFault, DriveStop, LineHandler, LinesFault, Waiting};
 use csi_stores::{Counted, Keep, Part};
 use csi_types::NoMemory;
 use std::io::Write;
 
 /// What answers the lines, what waits of those that it answered, and whether the last line told that the store is an older one.
 #[derive(Drop)]
-pub(crate) struct Answering<C> {
+pub(crate) struct ResponderHandler<C> {
     pub responder: C,
     pub waiting: Waiting,
     pub is_older: bool,
@@ -33,7 +33,7 @@ fn push_changed<C: Responder>(responder: &C, parts: &mut Vec<Part>) -> Result<()
     Ok(())
 }
 
-impl<C: Responder> Answering<C> {
+impl<C: Responder> ResponderHandler<C> {
     // Answers a line, whose answer and changed parts wait then. An `Err` leaves what waits, and nothing is known of the responder then.
     fn add(&mut self, line: &[u8]) -> Result<(), NoMemory>
         ensures ok { OnOk result (Adds (AnswersInRecord C.is_fit C.spells C.parts_of C.answers) C.parts_of with_newline always
@@ -66,7 +66,7 @@ impl<C: Responder> Answering<C> {
     }
 }
 
-impl<C: Responder, K: Keep, W: Write> LineHandler<K, Counted<W>> for Answering<C> {
+impl<C: Responder, K: Keep, W: Write> LineHandler<K, Counted<W>> for ResponderHandler<C> {
     type Fault = AnswerFault;
 
     ghost handles = { λ old number line new. IsHandled (AnswersInRecord C.is_fit C.spells C.parts_of C.answers) C.parts_of K.store W.contents old line new };
@@ -126,18 +126,18 @@ fn kind_of(fault: AnswerFault, is_older: bool) -> LinesServeFaultKind
 
 /// Why serving stopped, after so many lines that were committed, and whether the next one told that the store is an older one.
 pub(crate) fn stopped(
-    stop: Stop<LinesFault<AnswerFault>>,
+    stop: DriveStop<LinesFault<AnswerFault>>,
     is_older: bool,
     lines: u64,
 ) -> LinesServeFault
     ensures { result ≡ record { kind = stopped_by is_older stop; lines = lines } }
 {
     let kind = match stop {
-        Stop::Input => LinesServeFaultKind::Input,
-        Stop::Endless => LinesServeFaultKind::Endless,
-        Stop::Consumer(LinesFault::Long(number)) => LinesServeFaultKind::Long(number),
-        Stop::Consumer(LinesFault::NoMemory) => LinesServeFaultKind::NoMemory,
-        Stop::Consumer(LinesFault::Handler(fault)) => kind_of(fault, is_older),
+        DriveStop::Input => LinesServeFaultKind::Input,
+        DriveStop::Endless => LinesServeFaultKind::Endless,
+        DriveStop::Consumer(LinesFault::Long(number)) => LinesServeFaultKind::Long(number),
+        DriveStop::Consumer(LinesFault::NoMemory) => LinesServeFaultKind::NoMemory,
+        DriveStop::Consumer(LinesFault::Handler(fault)) => kind_of(fault, is_older),
     };
     LinesServeFault { kind, lines }
 }

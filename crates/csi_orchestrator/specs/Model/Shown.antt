@@ -90,13 +90,13 @@ abbrev pub held_on_node : RowShown → List ℕ → Option Held
 held_on_node row node = option_map held_at (node_entry_of row node)
 
 -- the open call of a row: the one of its kind for what is wanted
-abbrev pub issued_as : RowShown → OpenCall → Option Issued
-issued_as row open_call =
+abbrev pub issued_of_open_call : RowShown → OpenCall → Option Issued
+issued_of_open_call row open_call =
     option_map (λ due. record { name = row.name; number = open_call.number; party = due.party; call = due.call }) (call_for row.name (goal_in row) row.id open_call.kind)
 
 -- the same, if it has one
 abbrev pub open_in_row : RowShown → Option Issued
-open_in_row row = option_and_then (issued_as row) row.open_call
+open_in_row row = option_and_then (issued_of_open_call row) row.open_call
 
 -- the tries of a row, if there is one
 abbrev pub tries_in : Option RowShown → ℕ

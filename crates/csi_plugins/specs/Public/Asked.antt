@@ -8,11 +8,11 @@ use Rattle.csi_types.specs.Public.Text.{IsNodeId}
 use Rattle.csi_json.specs.Public.Configs.{text_config}
 use Rattle.csi_endings.specs.declared.ending.Ending.{Ending}
 use Rattle.csi_endings.specs.declared.ending.Ending.TheVariants.{NotUtf8, ConfigRefused, Usage, Memory}
-use Rattle.csi_plugins.specs.declared.kind.Plugin.{Plugin}
-use Rattle.csi_plugins.specs.declared.kind.Plugin.TheVariants.{Controller, Node}
+use Rattle.csi_plugins.specs.declared.kind.AskedPlugin.{AskedPlugin}
+use Rattle.csi_plugins.specs.declared.kind.AskedPlugin.TheVariants.{Controller, Node}
 
 -- the controller whose configuration the text says
-abbrev pub IsOfConfig : List ℕ → Plugin → Type 0
+abbrev pub IsOfConfig : List ℕ → AskedPlugin → Type 0
 IsOfConfig text (Controller config) = text_config text ≡ Ok config
 IsOfConfig text (Node id session) = ⊥
 
@@ -35,7 +35,7 @@ SaysNone word Memory = Unit {0}
 SaysNone word _ = ⊥
 
 -- the node of this id, which joined with the session that the word says
-abbrev pub IsOfId : List ℕ → Option (List ℕ) → Plugin → Type 0
+abbrev pub IsOfId : List ℕ → Option (List ℕ) → AskedPlugin → Type 0
 IsOfId id word (Controller config) = ⊥
 IsOfId id word (Node own session) = (own ≡ id) × SaysSession word session
 

@@ -17,8 +17,8 @@ use Rattle.csi_service.specs.Public.Opening.{Records, controller_records, node_r
 use Rattle.csi_service.specs.Public.NodeOpening.{joined_head}
 use Rattle.csi_service.specs.Public.Services.{ControllerService, controller_service_parts, NodeService, node_service_parts}
 use Rattle.csi_endings.specs.declared.ending.Ending.{Ending}
-use Rattle.csi_plugins.specs.declared.kind.Plugin.{Plugin}
-use Rattle.csi_plugins.specs.declared.kind.Plugin.TheVariants.{Controller, Node}
+use Rattle.csi_plugins.specs.declared.kind.AskedPlugin.{AskedPlugin}
+use Rattle.csi_plugins.specs.declared.kind.AskedPlugin.TheVariants.{Controller, Node}
 use Rattle.csi_plugins.specs.Public.Ending.{ending_of_store}
 use Rattle.csi_plugins.specs.Public.Service.{Streams, streams}
 use Rattle.csi_plugins.specs.Public.Serving.{IsControllerUnder, ControllerServes, IsNodeJoined, NodeServes}
@@ -80,12 +80,12 @@ abbrev pub Opened : {X C K R W : Type 0} → Way X C → Sight K R W → Process
 Opened way sight run = IsOpened sight.seen way.records way.is_asked way.answers way.parts_of run.before run.after way.head (io_of sight run) run.ending
 
 -- so it was with the plugin that was asked for
-abbrev pub PluginOpened : {K R W : Type 0} → Sight K R W → Plugin → Process K R W → Type 0
+abbrev pub PluginOpened : {K R W : Type 0} → Sight K R W → AskedPlugin → Process K R W → Type 0
 PluginOpened sight (Controller config) run = Opened (controller_way config) sight run
 PluginOpened sight (Node id session) run = Opened (node_way id session) sight run
 
 -- it ran: it was opened, or not, as its contract says
-abbrev pub PluginRan : {K R W : Type 0} → Sight K R W → Plugin → Process K R W → Type 0
+abbrev pub PluginRan : {K R W : Type 0} → Sight K R W → AskedPlugin → Process K R W → Type 0
 PluginRan sight asked run = PluginRuns sight.seen asked run.before run.after (io_of sight run) run.ending
 
 -- ---- the second run begins with what the first left
@@ -155,7 +155,7 @@ abbrev pub Joins : {X C K L R W : Type 0} (way : Way X C) (sight : Sight K R W) 
 Joins way sight sight_too content first second one = Hindered sight_too second ⊎ ((two : Opened way sight_too second) × AreOneRun way sight sight_too content first second one two)
 
 -- of either plugin, under the same configuration, or of the same id and with the same session of its joining
-abbrev pub PluginJoins : {K L R W : Type 0} (sight : Sight K R W) (sight_too : Sight L R W) (asked : Plugin) (content : List StoredPart) (first : Process K R W) (second : Process L R W) → PluginOpened sight asked first → Type 0
+abbrev pub PluginJoins : {K L R W : Type 0} (sight : Sight K R W) (sight_too : Sight L R W) (asked : AskedPlugin) (content : List StoredPart) (first : Process K R W) (second : Process L R W) → PluginOpened sight asked first → Type 0
 PluginJoins sight sight_too (Controller config) content first second one = Joins (controller_way config) sight sight_too content first second one
 PluginJoins sight sight_too (Node id session) content first second one = Joins (node_way id session) sight sight_too content first second one
 
@@ -163,7 +163,7 @@ PluginJoins sight sight_too (Node id session) content first second one = Joins (
 -- after the first: where the first was opened, the store had a content before, and was honest after both.
 abbrev pub RunsLaw : {K L R W : Type 0} → Sight K R W → Sight L R W → Type 0
 RunsLaw {K} {L} {R} {W} sight sight_too =
-    (asked : Plugin) (first : Process K R W) (second : Process L R W) (content : List StoredPart)
+    (asked : AskedPlugin) (first : Process K R W) (second : Process L R W) (content : List StoredPart)
     → (sight.seen first.after).honest → (sight_too.seen second.after).honest → (sight.seen first.before).holds content
     → (one : PluginOpened sight asked first) → Reopens (sight.seen first.after) (sight_too.seen second.before) → PluginRan sight_too asked second
     → PluginJoins sight sight_too asked content first second one
@@ -187,7 +187,7 @@ JoinsThree way sight sight_too sight_last content first second third one =
     × (Hindered sight_last third ⊎ ((three : Opened way sight_last third) × AreThreeRuns way sight sight_too sight_last content first second third one two run three)))
 
 -- of either plugin
-abbrev pub PluginJoinsThree : {K L M R W : Type 0} (sight : Sight K R W) (sight_too : Sight L R W) (sight_last : Sight M R W) (asked : Plugin) (content : List StoredPart) (first : Process K R W) (second : Process L R W) (third : Process M R W)
+abbrev pub PluginJoinsThree : {K L M R W : Type 0} (sight : Sight K R W) (sight_too : Sight L R W) (sight_last : Sight M R W) (asked : AskedPlugin) (content : List StoredPart) (first : Process K R W) (second : Process L R W) (third : Process M R W)
     → PluginOpened sight asked first → Type 0
 PluginJoinsThree sight sight_too sight_last (Controller config) content first second third one = JoinsThree (controller_way config) sight sight_too sight_last content first second third one
 PluginJoinsThree sight sight_too sight_last (Node id session) content first second third one = JoinsThree (node_way id session) sight sight_too sight_last content first second third one
@@ -195,7 +195,7 @@ PluginJoinsThree sight sight_too sight_last (Node id session) content first seco
 -- Three runs of a plugin likewise, one after another; and by the same step any number.
 abbrev pub ThreeRunsLaw : {K L M R W : Type 0} → Sight K R W → Sight L R W → Sight M R W → Type 0
 ThreeRunsLaw {K} {L} {M} {R} {W} sight sight_too sight_last =
-    (asked : Plugin) (first : Process K R W) (second : Process L R W) (third : Process M R W) (content : List StoredPart)
+    (asked : AskedPlugin) (first : Process K R W) (second : Process L R W) (third : Process M R W) (content : List StoredPart)
     → (sight.seen first.after).honest → (sight_too.seen second.after).honest → (sight_last.seen third.after).honest → (sight.seen first.before).holds content
     → (one : PluginOpened sight asked first) → Reopens (sight.seen first.after) (sight_too.seen second.before) → PluginRan sight_too asked second
     → Reopens (sight_too.seen second.after) (sight_last.seen third.before) → PluginRan sight_last asked third

@@ -12,8 +12,8 @@ use Rattle.csi_service.specs.Public.Services.{controller_service_parts, node_ser
 use Rattle.csi_service.specs.Public.StoreOpening.{StaysFor}
 use Rattle.csi_endings.specs.declared.ending.Ending.{Ending}
 use Rattle.csi_endings.specs.declared.ending.Ending.TheVariants as endings
-use Rattle.csi_plugins.specs.declared.kind.Plugin.{Plugin}
-use Rattle.csi_plugins.specs.declared.kind.Plugin.TheVariants.{Controller, Node}
+use Rattle.csi_plugins.specs.declared.kind.AskedPlugin.{AskedPlugin}
+use Rattle.csi_plugins.specs.declared.kind.AskedPlugin.TheVariants.{Controller, Node}
 use Rattle.csi_plugins.specs.Public.Ending.{ending_of_store}
 use Rattle.csi_plugins.specs.Public.Service.{Streams, IsServed}
 use Rattle.csi_plugins.specs.Public.Serving.{IsControllerUnder, ControllerServes, IsNodeJoined, NodeServes}
@@ -58,6 +58,6 @@ NodeRuns seen id session before after io ending =
     ⊎ Runs seen (node_records id) (IsNodeJoined id session) NodeServes node_service_parts (joined_head id session) before after io ending
 
 -- of either
-abbrev pub PluginRuns : {K : Type 0} → (K → Store) → Plugin → K → K → Streams → Ending → Type 0
+abbrev pub PluginRuns : {K : Type 0} → (K → Store) → AskedPlugin → K → K → Streams → Ending → Type 0
 PluginRuns seen (Controller config) = ControllerRuns seen config
 PluginRuns seen (Node id session) = NodeRuns seen id session

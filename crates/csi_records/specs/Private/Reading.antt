@@ -9,7 +9,7 @@ use Rattle.csi_types.specs.declared.reply.Reply.{Reply}
 use Rattle.csi_fence.specs.Model.Fence.{Kept}
 use Rattle.csi_frames.specs.Public.Bytes.{AreBytes}
 use Rattle.csi_frames.specs.declared.fault.FaultKind.TheVariants.{LengthDiffers, BadCount}
-use Rattle.csi_frames.specs.declared.fields.Stop.{Stop}
+use Rattle.csi_frames.specs.declared.fields.FieldStop.{FieldStop}
 use Rattle.csi_frames.specs.Public.Grammar.{any, at_most}
 use Rattle.csi_frames.specs.Public.Kinds.{reply_kind_from}
 use Rattle.csi_frames.specs.Public.Reading as frames
@@ -51,7 +51,7 @@ abbrev pub nothing : {A : Type 0} → Reader A
 nothing bytes = None
 
 -- what a reader of frames takes, if it takes anything
-abbrev pub taken : {A : Type 0} → Result (A × List ℕ) Stop → Option (A × List ℕ)
+abbrev pub taken : {A : Type 0} → Result (A × List ℕ) FieldStop → Option (A × List ℕ)
 taken (Ok read) = Some read
 taken (Err stop) = None
 

@@ -39,8 +39,8 @@ abbrev pub record_of : OrchestratorParts → RecordParts
 record_of parts = record { nodes = parts.nodes; session = parts.last.session; rows = parts.rows }
 
 -- no two stores are of one node
-abbrev pub AreApart : List GivenNode → Type 0
-AreApart given = EachTwo (λ (a b : GivenNode). same_text a.id b.id ≡ false) given
+abbrev pub HaveDistinctNodes : List GivenNode → Type 0
+HaveDistinctNodes given = EachTwo (λ (a b : GivenNode). same_text a.id b.id ≡ false) given
 
 -- the session is later than the controller's, and than each node's
 pub record IsLater (session : ℕ) (controller : ControllerState) (given : List GivenNode) : Type 0 where
@@ -53,7 +53,7 @@ DoAgree controller given = (node : GivenNode) → IsAmong node given → Agree c
 
 -- the stores are fit for a recovery in this session, whatever the rows are
 pub record AreFit (session : ℕ) (controller : ControllerState) (given : List GivenNode) : Type 0 where
-  pub apart : AreApart given
+  pub apart : HaveDistinctNodes given
   pub later : IsLater session controller given
   pub agree : DoAgree controller given
 
@@ -78,9 +78,9 @@ pub record IsNotFree (nodes : List (List ℕ)) (rows : List RowShown) (place : �
 
 -- why the stores are unfit for it: the first of these that holds
 abbrev pub IsUnfit : ℕ → ControllerState → List GivenNode → RecoveryFault → Type 0
-IsUnfit session controller given (SameNode place) = IsFirst AreApart given place
-IsUnfit session controller given NotLater = AreApart given × (IsLater session controller given → ⊥)
-IsUnfit session controller given (Disagrees place) = AreApart given × IsLater session controller given × IsFirst (DoAgree controller) given place
+IsUnfit session controller given (SameNode place) = IsFirst HaveDistinctNodes given place
+IsUnfit session controller given NotLater = HaveDistinctNodes given × (IsLater session controller given → ⊥)
+IsUnfit session controller given (Disagrees place) = HaveDistinctNodes given × IsLater session controller given × IsFirst (DoAgree controller) given place
 IsUnfit session controller given BadNodes = ⊥
 IsUnfit session controller given (BadRow place) = ⊥
 IsUnfit session controller given NoMemory = ⊥

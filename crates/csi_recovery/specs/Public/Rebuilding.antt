@@ -19,7 +19,7 @@ use Rattle.csi_recovery.specs.declared.fault.RecoveryFault.{RecoveryFault}
 use Rattle.csi_recovery.specs.declared.fault.RecoveryFault.TheVariants as recovery
 use Rattle.csi_recovery.specs.declared.rebuilding_fault.RebuildingFault.{RebuildingFault}
 use Rattle.csi_recovery.specs.declared.rebuilding_fault.RebuildingFault.TheVariants.{NumbersSpent, IdTaken, BadRow, NoMemory}
-use Rattle.csi_recovery.specs.Public.Judged.{IsKeptOf, AreApart, DoAgree, IsFirst}
+use Rattle.csi_recovery.specs.Public.Judged.{IsKeptOf, HaveDistinctNodes, DoAgree, IsFirst}
 use Rattle.csi_world.specs.Public.Rebuilt.{IsRebuilt, rebuilt_volume}
 
 -- ---- ids
@@ -102,15 +102,15 @@ AreEarlier controller given = (node : GivenNode) → IsAmong node given → node
 
 -- the nodes' stores go with the controller that was made: they are of different nodes, heard of no session that isn't before its own, and agree
 pub record AreLike (controller : ControllerState) (given : List GivenNode) : Type 0 where
-  pub apart : AreApart given
+  pub apart : HaveDistinctNodes given
   pub earlier : AreEarlier controller given
   pub agree : DoAgree controller given
 
 -- why they don't: the first of these that holds
 abbrev pub IsUnlike : ControllerState → List GivenNode → RecoveryFault → Type 0
-IsUnlike controller given (recovery.SameNode place) = IsFirst AreApart given place
-IsUnlike controller given recovery.NotLater = AreApart given × (AreEarlier controller given → ⊥)
-IsUnlike controller given (recovery.Disagrees place) = AreApart given × AreEarlier controller given × IsFirst (DoAgree controller) given place
+IsUnlike controller given (recovery.SameNode place) = IsFirst HaveDistinctNodes given place
+IsUnlike controller given recovery.NotLater = HaveDistinctNodes given × (AreEarlier controller given → ⊥)
+IsUnlike controller given (recovery.Disagrees place) = HaveDistinctNodes given × AreEarlier controller given × IsFirst (DoAgree controller) given place
 IsUnlike controller given recovery.BadNodes = ⊥
 IsUnlike controller given (recovery.BadRow place) = ⊥
 IsUnlike controller given recovery.NoMemory = ⊥

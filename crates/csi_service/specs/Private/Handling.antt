@@ -4,8 +4,8 @@ use Rattle.csi_types.specs.Model.Frame.{Frame}
 use Rattle.csi_stores.specs.declared.counted.Counted.{Counted}
 use Rattle.csi_stores.specs.Public.Part.{StoredPart}
 use Rattle.csi_stores.specs.Public.Stores.{Store}
-use Rattle.csi_driver.specs.declared.driver.Stop.{Stop}
-use Rattle.csi_driver.specs.declared.driver.Stop.TheVariants as stop
+use Rattle.csi_driver.specs.declared.driver.DriveStop.{DriveStop}
+use Rattle.csi_driver.specs.declared.driver.DriveStop.TheVariants as stop
 use Rattle.csi_driver.specs.declared.frames.FramesFault.{FramesFault}
 use Rattle.csi_driver.specs.declared.frames.FramesFault.TheVariants as frames_faults
 use Rattle.csi_driver.specs.declared.waiting.AnswerFault.{AnswerFault}
@@ -15,12 +15,12 @@ use Rattle.csi_driver.specs.Public.Waiting.{Settling, Settles}
 use Rattle.csi_driver.specs.Public.Answering.{IsAnswered}
 use Rattle.csi_service.specs.declared.serving.fault.ServeFaultKind.{ServeFaultKind}
 use Rattle.csi_service.specs.declared.serving.fault.ServeFaultKind.TheVariants as kinds
-use Rattle.csi_service.specs.declared.serving.handling.Answering.{Answering}
+use Rattle.csi_service.specs.declared.serving.handling.CoreHandler.{CoreHandler}
 use Rattle.csi_service.specs.Public.Serving.{reply_bytes}
 
 -- a core, the store under it, and its writer
 abbrev pub Serving : Type 0 → Type 0 → Type 0 → Type 0
-Serving C K W = State (Answering C) K (Counted W)
+Serving C K W = State (CoreHandler C) K (Counted W)
 
 -- what waits of it
 abbrev pub waiting_of : {C K W : Type 0} → Serving C K W → Settling K W
@@ -35,7 +35,7 @@ abbrev pub Flushes : {C K W : Type 0} → (K → Store) → (W → Option (List 
 Flushes store contents old new = Settles store contents (waiting_of old) (waiting_of new) × (new.own.core ≡ old.own.core)
 
 -- why serving stops
-abbrev pub stopped_by : Stop (FramesFault AnswerFault) → ServeFaultKind
+abbrev pub stopped_by : DriveStop (FramesFault AnswerFault) → ServeFaultKind
 stopped_by stop.Input = kinds.Input
 stopped_by stop.Endless = kinds.Endless
 stopped_by (stop.Consumer (frames_faults.Frame kind place)) = kinds.Frame kind place

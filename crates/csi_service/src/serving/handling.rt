@@ -10,7 +10,7 @@ ghost use Rattle.csi_service.specs.Private.Handling.{waiting_of, IsHandled, Flus
 
 use crate::plugin_core::Core;
 use crate::serving::fault::{ServeFault, ServeFaultKind};
-use csi_driver::{AnswerFault, FrameHandler, FramesFault, Stop, Waiting};
+use csi_driver::{AnswerFault, DriveStop, FrameHandler, FramesFault, Waiting};
 use csi_frames::FrameRef;
 use csi_stores::{Counted, Keep, Part};
 use csi_types::NoMemory;
@@ -18,7 +18,7 @@ use std::io::Write;
 
 /// A core, and what waits of the frames that it answered.
 #[derive(Drop)]
-pub(crate) struct Answering<C> {
+pub(crate) struct CoreHandler<C> {
     pub core: C,
     pub waiting: Waiting,
 }
@@ -34,7 +34,7 @@ fn push_changed<C: Core>(core: &C, parts: &mut Vec<Part>) -> Result<(), NoMemory
     Ok(())
 }
 
-impl<C: Core> Answering<C> {
+impl<C: Core> CoreHandler<C> {
     // Answers a frame, whose reply and changed parts wait then. An `Err` leaves what waits, and nothing is known of the core then.
     fn add(&mut self, frame: &FrameRef<'_>) -> Result<(), NoMemory>
         ensures ok { OnOk result (Adds (AnswersInRecord C.is_fit C.spells C.parts_of C.answers) C.parts_of reply_bytes is_some
@@ -59,7 +59,7 @@ impl<C: Core> Answering<C> {
     }
 }
 
-impl<C: Core, K: Keep, W: Write> FrameHandler<K, Counted<W>> for Answering<C> {
+impl<C: Core, K: Keep, W: Write> FrameHandler<K, Counted<W>> for CoreHandler<C> {
     type Fault = AnswerFault;
 
     ghost handles = { λ old place frame new. IsHandled (AnswersInRecord C.is_fit C.spells C.parts_of C.answers) C.parts_of K.store W.contents old frame new };
@@ -99,19 +99,19 @@ impl<C: Core, K: Keep, W: Write> FrameHandler<K, Counted<W>> for Answering<C> {
 }
 
 /// Why serving stopped, after so many frames that were committed.
-pub(crate) fn stopped(stop: Stop<FramesFault<AnswerFault>>, frames: u64) -> ServeFault
+pub(crate) fn stopped(stop: DriveStop<FramesFault<AnswerFault>>, frames: u64) -> ServeFault
     ensures { result ≡ record { kind = stopped_by stop; frames = frames } }
 {
     let kind = match stop {
-        Stop::Input => ServeFaultKind::Input,
-        Stop::Endless => ServeFaultKind::Endless,
-        Stop::Consumer(FramesFault::Frame(kind, place)) => ServeFaultKind::Frame(kind, place),
-        Stop::Consumer(FramesFault::NoMemory) => ServeFaultKind::NoMemory,
-        Stop::Consumer(FramesFault::Handler(AnswerFault::NoMemory)) => ServeFaultKind::NoMemory,
-        Stop::Consumer(FramesFault::Handler(AnswerFault::Keep(fault))) => ServeFaultKind::Keep(
+        DriveStop::Input => ServeFaultKind::Input,
+        DriveStop::Endless => ServeFaultKind::Endless,
+        DriveStop::Consumer(FramesFault::Frame(kind, place)) => ServeFaultKind::Frame(kind, place),
+        DriveStop::Consumer(FramesFault::NoMemory) => ServeFaultKind::NoMemory,
+        DriveStop::Consumer(FramesFault::Handler(AnswerFault::NoMemory)) => ServeFaultKind::NoMemory,
+        DriveStop::Consumer(FramesFault::Handler(AnswerFault::Keep(fault))) => ServeFaultKind::Keep(
             fault,
         ),
-        Stop::Consumer(FramesFault::Handler(AnswerFault::Output)) => ServeFaultKind::Output,
+        DriveStop::Consumer(FramesFault::Handler(AnswerFault::Output)) => ServeFaultKind::Output,
     };
     ServeFault { kind, frames }
 }

@@ -6,8 +6,8 @@ use Rattle.csi_types.specs.Model.Frame.{Frame}
 use Rattle.csi_frames.specs.Public.Spelling.{spelling}
 use Rattle.csi_stores.specs.Public.Counting.{HasRisen}
 use Rattle.csi_stores.specs.Public.Writing.{WritesFront}
-use Rattle.csi_driver.specs.declared.driver.Stop.{Stop}
-use Rattle.csi_driver.specs.declared.driver.Stop.TheVariants as stop
+use Rattle.csi_driver.specs.declared.driver.DriveStop.{DriveStop}
+use Rattle.csi_driver.specs.declared.driver.DriveStop.TheVariants as stop
 use Rattle.csi_driver.specs.declared.frames.FramesFault.{FramesFault}
 use Rattle.csi_driver.specs.declared.frames.FramesFault.TheVariants as frames_faults
 use Rattle.csi_driver.specs.Public.Frames.{IsFaultOf}
@@ -46,7 +46,7 @@ StopsGiving waited had has before after givings.NoMemory = Appends had has waite
 StopsGiving waited had has before after givings.Output = WritesFront had has waited × HasRisen before after
 
 -- why a stream isn't handled to its end
-abbrev pub stream_fault : Stop (FramesFault GivingFault) → StreamFault
+abbrev pub stream_fault : DriveStop (FramesFault GivingFault) → StreamFault
 stream_fault stop.Input = stops.Input
 stream_fault stop.Endless = stops.Endless
 stream_fault (stop.Consumer (frames_faults.Frame kind place)) = stops.Frame kind place

@@ -120,15 +120,15 @@ delivered_on (suc more) way name place =
     else delivered_on more (record { world = (delivered way.world (frame_numbered way.world (suc place))).world; events = way.events + 1 }) name (suc place)
 
 -- a timeout, and then the deliveries of what is sent from there on, the oldest first, twelve at most
-abbrev pub brought_on : World → List ℕ → OnItsWay
-brought_on world name =
+abbrev pub way_after_timeout : World → List ℕ → OnItsWay
+way_after_timeout world name =
     let timed : Occurred = orchestrated world (orchestrator.TimesOut name) in
     delivered_on 12 (record { world = timed.world; events = 1 }) name (length world.frames)
 
 -- what becomes of a volume that is settled; where nothing is wanted of it, or its name has no row, nothing happens
 abbrev pub settling_way : World → List ℕ → OnItsWay
 settling_way world name =
-    if is_at_rest world name || not (has_row world.history name) then record { world = world; events = 0 } else brought_on world name
+    if is_at_rest world name || not (has_row world.history name) then record { world = world; events = 0 } else way_after_timeout world name
 
 -- what comes of that, by whether the volume is at rest then
 abbrev pub settled_by : List ℕ → OnItsWay → Occurred

@@ -44,31 +44,31 @@ IsAttachedWhileLive world =
     (holding : Holding) → IsAmong holding world.controller.holdings → IsSome (live_volume holding.volume world.controller)
 
 -- the volume of a name is attached at a node
-abbrev pub holds_attached : ControllerState → List ℕ → Option Volume → Bool
-holds_attached controller node None = false
-holds_attached controller node (Some volume) = is_some (holding_at volume.id node controller)
+abbrev pub is_attached_there : ControllerState → List ℕ → Option Volume → Bool
+is_attached_there controller node None = false
+is_attached_there controller node (Some volume) = is_some (holding_at volume.id node controller)
 
 -- it is staged at a node
-abbrev pub holds_staged : Option Volume → Option NodeState → Bool
-holds_staged (Some volume) (Some state) = is_some (staged_of volume.id state)
-holds_staged volume state = false
+abbrev pub is_staged_there : Option Volume → Option NodeState → Bool
+is_staged_there (Some volume) (Some state) = is_some (staged_of volume.id state)
+is_staged_there volume state = false
 
 -- it is published at a target of a node
-abbrev pub holds_published : List ℕ → Option Volume → Option NodeState → Bool
-holds_published target (Some volume) (Some state) = is_some (published_at volume.id target state)
-holds_published target volume state = false
+abbrev pub is_published_there : List ℕ → Option Volume → Option NodeState → Bool
+is_published_there target (Some volume) (Some state) = is_some (published_at volume.id target state)
+is_published_there target volume state = false
 
 -- the thing is so, whatever the orchestrator knows; that a deleted volume is attached nowhere is a clause of its own
-abbrev pub holds : World → Thing → Bool
-holds world (Exists name) = is_some (find (λ volume. same_text volume.name name && volume.is_live) world.controller.volumes)
-holds world (Attached name node) = holds_attached world.controller node (volume_named name world.controller)
-holds world (Staged name node) = holds_staged (volume_named name world.controller) (node_state node world)
-holds world (Published name node target) = holds_published target (volume_named name world.controller) (node_state node world)
+abbrev pub is_true_in : World → Thing → Bool
+is_true_in world (Exists name) = is_some (find (λ volume. same_text volume.name name && volume.is_live) world.controller.volumes)
+is_true_in world (Attached name node) = is_attached_there world.controller node (volume_named name world.controller)
+is_true_in world (Staged name node) = is_staged_there (volume_named name world.controller) (node_state node world)
+is_true_in world (Published name node target) = is_published_there target (volume_named name world.controller) (node_state node world)
 
 -- what is known to be so is so, and what is known not to be so isn't
 pub record IsRecordedRight (world : World) (thing : Thing) : Type 0 where
-  pub yes : known world.history thing ≡ Yes → holds world thing ≡ true
-  pub no : known world.history thing ≡ No → holds world thing ≡ false
+  pub yes : known world.history thing ≡ Yes → is_true_in world thing ≡ true
+  pub no : known world.history thing ≡ No → is_true_in world thing ≡ false
 
 -- all five
 pub record Safe (world : World) : Type 0 where

@@ -20,7 +20,7 @@ use Rattle.csi_types.specs.declared.event.Event.TheVariants.{Create, Use, Stop, 
 use Rattle.csi_world.specs.declared.outcomes.Outcome.{Outcome}
 use Rattle.csi_world.specs.declared.outcomes.Outcome.TheVariants.{Sent, Refused, Answered, Taken, Ignored, NoSuchFrame, NoSuchNode, Restarted, Joined, NodeThere, Lost}
 use Rattle.csi_world.specs.Model.World.{World, empty_world}
-use Rattle.csi_world.specs.Model.Safe.{IsExclusive, IsStagedWhereAttached, IsPublishedWhereStaged, IsAttachedWhileLive, IsRecordedRight, holds}
+use Rattle.csi_world.specs.Model.Safe.{IsExclusive, IsStagedWhereAttached, IsPublishedWhereStaged, IsAttachedWhileLive, IsRecordedRight, is_true_in}
 use Rattle.csi_world.specs.Model.After.{after}
 use Rattle.csi_world.specs.Public.Settling.{settling, settled}
 use Rattle.csi_world.specs.Private.Laws.{IsMadeOfSteps}
@@ -139,7 +139,7 @@ pub record WorkedLateStage : Type 0 where
   pub undo : slice_get (world_of late_stage).frames 7 ≡ Some (call_frame (number 1 6) (Node n1) (calls.NodeUnstageVolume 1))
   pub detach : slice_get (world_of late_stage).frames 9 ≡ Some (call_frame (number 1 7) Controller (calls.ControllerUnpublishVolume 1 n1))
   pub stale : slice_get (world_of late_stage).frames 10 ≡ Some (reply_frame (number 1 3) (Node n1) kinds.NodeStageVolume stale_reply)
-  pub not_staged : holds (world_of late_stage) staged ≡ false
+  pub not_staged : is_true_in (world_of late_stage) staged ≡ false
 
 -- a detach is given up and sent again, the volume is attached again, and the first detach comes late
 abbrev pub late_detach : List Event
@@ -154,7 +154,7 @@ pub record WorkedLateDetach : Type 0 where
       ∷ Sent 16 ∷ Answered 17 ∷ Taken (Some 18) ∷ Answered 19 ∷ Taken (Some 20) ∷ Answered 21 ∷ []
   pub late : slice_get (world_of late_detach).frames 12 ≡ Some (call_frame (number 1 7) Controller (calls.ControllerUnpublishVolume 1 n1))
   pub stale : slice_get (world_of late_detach).frames 20 ≡ Some (reply_frame (number 1 7) Controller kinds.ControllerUnpublishVolume stale_reply)
-  pub still_attached : holds (world_of late_detach) attached ≡ true
+  pub still_attached : is_true_in (world_of late_detach) attached ≡ true
   pub known_attached : known_after late_detach attached ≡ Yes
 
 -- a publish was done, but its reply waits, and the publish is given up and sent again: the reply is ignored
@@ -221,8 +221,8 @@ pub record WorkedLostNode : Type 0 where
   pub attach : slice_get (two_world lost_node).frames 10 ≡ Some (call_frame (number 2 2) Controller (calls.ControllerPublishVolume 1 n2 block false))
   pub late : slice_get (two_world lost_node).frames 6 ≡ Some (call_frame (number 1 4) (Node n1) (calls.NodePublishVolume 1 a block false))
   pub stale : slice_get (two_world lost_node).frames 16 ≡ Some (reply_frame (number 1 4) (Node n1) kinds.NodePublishVolume stale_reply)
-  pub not_there : holds (two_world lost_node) published ≡ false
-  pub elsewhere : holds (two_world lost_node) (things.Published v n2 a) ≡ true
+  pub not_there : is_true_in (two_world lost_node) published ≡ false
+  pub elsewhere : is_true_in (two_world lost_node) (things.Published v n2 a) ≡ true
 
 -- v is deleted, and made again once its name was forgotten
 abbrev pub made_again : List Event
@@ -246,7 +246,7 @@ refused_changes = using ++ Join n1 ∷ Lose n2 ∷ RestartOrchestratorWith [] �
 -- so it is: what is attached stays so, also where the controller has no node any more
 pub record WorkedRefusedChanges : Type 0 where
   pub outcomes : outcomes_of refused_changes ≡ using_outcomes ++ NodeThere ∷ NoSuchNode ∷ Refused NodeInUse ∷ Restarted ∷ []
-  pub still_attached : holds (world_of refused_changes) attached ≡ true
+  pub still_attached : is_true_in (world_of refused_changes) attached ≡ true
 
 -- v is to be used at a target that is no path from the root
 abbrev pub badly : List Event
@@ -259,7 +259,7 @@ pub record WorkedSettling : Type 0 where
   pub published_known : known (settled (world_of attaching) v).history published ≡ Yes
   pub thirteen : length (settling (world_of badly) v) ≡ 13
   pub unwanted : goal_of (settled (world_of badly) v).history v ≡ None
-  pub not_attached : holds (settled (world_of badly) v) attached ≡ false
+  pub not_attached : is_true_in (settled (world_of badly) v) attached ≡ false
   pub nothing : settling (world_of using) v ≡ []
 
 -- a frame that isn't there changes nothing, nor does a run of no events

@@ -12,7 +12,7 @@ use Rattle.csi_orchestrator.specs.declared.thing.Known.TheVariants.{Yes, No}
 use Rattle.csi_world.specs.declared.violation.Violation.{Violation}
 use Rattle.csi_world.specs.declared.violation.Violation.TheVariants as violations
 use Rattle.csi_world.specs.Model.World.{World}
-use Rattle.csi_world.specs.Model.Safe.{IsExclusive, IsStagedWhereAttached, IsPublishedWhereStaged, IsAttachedWhileLive, Safe, holds}
+use Rattle.csi_world.specs.Model.Safe.{IsExclusive, IsStagedWhereAttached, IsPublishedWhereStaged, IsAttachedWhileLive, Safe, is_true_in}
 use Rattle.csi_world.specs.Model.Simulated.{AreNodesShown}
 
 -- the plugins are those of this world
@@ -22,8 +22,8 @@ pub record ArePlugins (plugin : ControllerParts) (parts : List NodeParts) (world
 
 -- what is known to be so is so, and what is known not to be so isn't
 pub record IsMarkedRight (marks : Thing → Known) (world : World) (thing : Thing) : Type 0 where
-  pub yes : marks thing ≡ Yes → holds world thing ≡ true
-  pub no : marks thing ≡ No → holds world thing ≡ false
+  pub yes : marks thing ≡ Yes → is_true_in world thing ≡ true
+  pub no : marks thing ≡ No → is_true_in world thing ≡ false
 
 -- so it is of every thing
 abbrev pub AreMarkedRight : (Thing → Known) → World → Type 0

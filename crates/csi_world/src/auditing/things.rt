@@ -5,7 +5,7 @@ ghost use Rattle.csi_lists.specs.Model.Members.{IsAmong};
 ghost use Rattle.csi_controller.specs.Public.Core.{AreRisingRows};
 ghost use Rattle.csi_orchestrator.specs.declared.thing.Thing.{Thing as ThingParts};
 ghost use Rattle.csi_world.specs.Model.World.{World};
-ghost use Rattle.csi_world.specs.Model.Safe.{holds};
+ghost use Rattle.csi_world.specs.Model.Safe.{is_true_in};
 ghost use Rattle.csi_world.specs.Private.Listed.{AreRowsApart, IsListed, things_of, staged_thing, published_thing, things_at, things_listed};
 
 use super::halving::find_row;
@@ -150,7 +150,7 @@ pub(crate) fn list_things(
 ) -> Result<Vec<Thing>, NoMemory>
     requires { AreRowsApart rows.now }
     ensures { (world : World) → IsListed (record { rows = rows.now; nodes = nodes.now }) world →
-        IfOk result (λ things. (thing : ThingParts) → IsAmong thing things.items ↔ (holds world thing ≡ true)) }
+        IfOk result (λ things. (thing : ThingParts) → IsAmong thing things.items ↔ (is_true_in world thing ≡ true)) }
 {
     gathered(alloc, rows, nodes)
 }

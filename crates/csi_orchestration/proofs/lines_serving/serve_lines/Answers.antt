@@ -3,12 +3,12 @@ use Rattle.std.proofs.Common.{◌∙◌, ap, ◌≤◌, ◌^◌, length}
 use Rattle.std.specs.Io.KnownBytes.{IsAtEnd}
 use Rattle.csi_stores.specs.Public.Counting.{HasRisen}
 use Rattle.csi_orchestration.specs.Public.LinesAnswering.{AnswersInRecord}
-use Rattle.csi_orchestration.specs.declared.lines_serving.handling.Answering.{Answering}
+use Rattle.csi_orchestration.specs.declared.lines_serving.handling.ResponderHandler.{ResponderHandler}
 use Rattle.csi_orchestration.proofs.LinesServed.{reader_stays, reader_failed, served, halted, all_answered}
 use Rattle.csi_orchestration.proofs.lines_serving.serve_lines.Goals as goal
 
 pub read-requires-clause-flushed : goal.read-requires-clause-flushed
-read-requires-clause-flushed g c = ap (λ (h : Answering _). h.waiting.items) c.new-lines.ensures.handler ∙ c.new.ensures.items
+read-requires-clause-flushed g c = ap (λ (h : ResponderHandler _). h.waiting.items) c.new-lines.ensures.handler ∙ c.new.ensures.items
 
 pub read-requires-clause-asks : goal.read-requires-clause-asks
 read-requires-clause-asks g c = λ gone read now consumed rests.

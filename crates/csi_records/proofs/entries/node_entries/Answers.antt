@@ -2,7 +2,7 @@ use Rattle.std.proofs.Common.{◌≡◌, ◌++◌, ◌∷◌, [], map}
 use Rattle.std.proofs.lemmas.List.{map-append}
 use Rattle.std.proofs.lemmas.Result.{err_from_is_err_and}
 use Rattle.csi_orchestrator.specs.Public.Shown.{node_entry_shown}
-use Rattle.csi_records.specs.declared.fault.Stop.TheVariants.{Bad}
+use Rattle.csi_records.specs.declared.fault.ValueStop.TheVariants.{Bad}
 use Rattle.csi_records.specs.Private.OrchestratorReading.{read_node_entry}
 use Rattle.csi_records.proofs.ReadingLists.{counted-as, goes_on, ends, is_done, same_error}
 use Rattle.csi_records.proofs.entries.node_entries.Goals as goal

@@ -1,7 +1,7 @@
 use Rattle.std.proofs.Common.{◌∷◌, [], arith}
 use Rattle.std.proofs.lemmas.Result.{err_from_is_err_and}
 use Rattle.std.proofs.lemmas.List.{length-append}
-use Rattle.csi_records.specs.declared.fault.Stop.TheVariants.{Bad}
+use Rattle.csi_records.specs.declared.fault.ValueStop.TheVariants.{Bad}
 use Rattle.csi_records.proofs.FieldReaders.{count-within}
 use Rattle.csi_records.proofs.ReadingLists.{counted-as, goes_on, ends, is_done, same_error}
 use Rattle.csi_records.proofs.items.list.Goals as goal

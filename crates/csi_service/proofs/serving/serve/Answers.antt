@@ -3,12 +3,12 @@ use Rattle.std.proofs.Common.{◌∙◌, ap, ◌≤◌, ◌^◌, length, arith, 
 use Rattle.std.specs.Io.KnownBytes.{IsAtEnd}
 use Rattle.csi_stores.specs.Public.Counting.{HasRisen}
 use Rattle.csi_service.specs.Public.Answering.{AnswersInRecord}
-use Rattle.csi_service.specs.declared.serving.handling.Answering.{Answering}
+use Rattle.csi_service.specs.declared.serving.handling.CoreHandler.{CoreHandler}
 use Rattle.csi_service.proofs.ServingEnds.{reader_stays, reader_failed, served, halted, all_answered}
 use Rattle.csi_service.proofs.serving.serve.Goals as goal
 
 pub read-requires-clause-flushed : goal.read-requires-clause-flushed
-read-requires-clause-flushed g c = ap (λ (h : Answering _). h.waiting.items) c.new-frames.ensures.handler ∙ c.new.ensures.items
+read-requires-clause-flushed g c = ap (λ (h : CoreHandler _). h.waiting.items) c.new-frames.ensures.handler ∙ c.new.ensures.items
 
 pub read-requires-clause-asks : goal.read-requires-clause-asks
 read-requires-clause-asks g c = λ gone read now consumed rests.

@@ -1,7 +1,7 @@
 -- A refusal is one of what waits, or of a frame, and then what waits is settled.
 use Rattle.std.proofs.Common.{refl}
 use Rattle.csi_driver.proofs.WaitingStops.{stops-at-once, ends-so}
-use Rattle.csi_service.proofs.serving.handling.AnsweringFrameHandlerCounted.handle.Goals as goal
+use Rattle.csi_service.proofs.serving.handling.CoreHandlerFrameHandlerCounted.handle.Goals as goal
 
 pub returns-in-Err-clause-err : goal.returns-in-Err-clause-err
 returns-in-Err-clause-err g c = stops-at-once g.K.Keep.store g.W.Write.contents _ _ c.in-Err.stop c.in-Err.ensures.err

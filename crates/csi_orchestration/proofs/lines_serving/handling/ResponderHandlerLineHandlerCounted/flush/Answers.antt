@@ -1,7 +1,7 @@
 -- A refusal is one of what waits.
 use Rattle.csi_driver.proofs.WaitingStops.{stops-at-once}
 use Rattle.csi_orchestration.proofs.LinesProgress.{not-so}
-use Rattle.csi_orchestration.proofs.lines_serving.handling.AnsweringLineHandlerCounted.flush.Goals as goal
+use Rattle.csi_orchestration.proofs.lines_serving.handling.ResponderHandlerLineHandlerCounted.flush.Goals as goal
 
 pub returns-in-Err-clause-err : goal.returns-in-Err-clause-err
 returns-in-Err-clause-err g c = (stops-at-once g.K.Keep.store g.W.Write.contents _ _ c.in-Err.stop c.in-Err.ensures.err, λ older. not-so older)

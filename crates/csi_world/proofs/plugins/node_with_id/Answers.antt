@@ -1,7 +1,7 @@
 -- By where the node is.
 use Rattle.csi_world.proofs.Words.{Bool, sym, ◌∙◌, same_text, NodeParts}
 use Rattle.csi_world.proofs.Lemmas.{FirstAt-position, FirstAt-find, find-no_place}
-use Rattle.csi_world.proofs.plugins.node_of.Goals as goal
+use Rattle.csi_world.proofs.plugins.node_with_id.Goals as goal
 
 pub returns-in-Some : goal.returns-in-Some
 returns-in-Some c =

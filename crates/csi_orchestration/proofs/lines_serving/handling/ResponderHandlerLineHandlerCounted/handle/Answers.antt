@@ -2,7 +2,7 @@
 use Rattle.std.proofs.Common.{refl}
 use Rattle.csi_driver.proofs.WaitingStops.{stops-at-once, ends-so}
 use Rattle.csi_orchestration.proofs.LinesProgress.{not-so}
-use Rattle.csi_orchestration.proofs.lines_serving.handling.AnsweringLineHandlerCounted.handle.Goals as goal
+use Rattle.csi_orchestration.proofs.lines_serving.handling.ResponderHandlerLineHandlerCounted.handle.Goals as goal
 
 pub returns-in-Err-clause-err : goal.returns-in-Err-clause-err
 returns-in-Err-clause-err g c = (stops-at-once g.K.Keep.store g.W.Write.contents _ _ c.in-Err.stop c.in-Err.ensures.err, λ older. not-so older)
