@@ -17,7 +17,7 @@ mod schedules;
 mod shown;
 mod streams;
 
-use csi_endings::Ending;
+use csi_streams::Ending;
 
 // What a command is to give for the frames of a file, which are written in hexadecimal: for `answer` the replies, for `show`
 // the lines; and how it ends. For `run` the file is a schedule and its report is given, or bytes that get

@@ -2,7 +2,7 @@
 use Rattle.std.proofs.Common.{ℕ, List, Result, Ok, Err, IfOk}
 use Rattle.csi_json.specs.Public.Schedule.{Schedule}
 use Rattle.csi_world.specs.Model.Simulated.{WorldParts}
-use Rattle.csi_endings.specs.declared.command.ScheduleCommand.{ScheduleCommand}
+use Rattle.csi_streams.specs.declared.command.ScheduleCommand.{ScheduleCommand}
 use Rattle.csi_commands.specs.Public.Playing.{IsPlayed}
 use Rattle.csi_commands.specs.Public.Running.{Drawing, IsGivenOf, IsGiven}
 

@@ -11,15 +11,15 @@ use Rattle.csi_stores.specs.Public.Writing.{WritesFront}
 use Rattle.csi_streams.specs.declared.streaming.StreamFault.{StreamFault}
 use Rattle.csi_streams.specs.declared.streaming.StreamFault.TheVariants as stops
 use Rattle.csi_streams.specs.Public.Replay.{spelled_replies, Grows}
-use Rattle.csi_streams.specs.Public.Lines.{lines}
+use Rattle.csi_streams.specs.Public.FrameLines.{lines}
 use Rattle.csi_streams.specs.Public.Failing.{TellsReader, TellsWriter}
-use Rattle.csi_driver.specs.Public.Frames.{Waits}
-use Rattle.csi_driver.proofs.Streams.{one_stream}
+use Rattle.csi_streams.specs.Public.Frames.{Waits}
+use Rattle.csi_streams.proofs.Streams.{one_stream}
 use Rattle.csi_streams.specs.Public.Streaming.{AreReplies, AreLines, GivesFront, StreamEnds, IsStreamed}
-use Rattle.csi_endings.specs.declared.command.FileCommand.TheVariants.{Answer, Show, Schedule}
-use Rattle.csi_endings.specs.declared.command.ScheduleCommand.{ScheduleCommand}
-use Rattle.csi_endings.specs.declared.ending.Ending.{Ending}
-use Rattle.csi_endings.specs.declared.ending.Ending.TheVariants as endings
+use Rattle.csi_streams.specs.declared.command.FileCommand.TheVariants.{Answer, Show, Schedule}
+use Rattle.csi_streams.specs.declared.command.ScheduleCommand.{ScheduleCommand}
+use Rattle.csi_streams.specs.declared.ending.Ending.{Ending}
+use Rattle.csi_streams.specs.declared.ending.Ending.TheVariants as endings
 use Rattle.csi_commands.specs.Public.Ending.{EndsAs}
 use Rattle.csi_commands.specs.Public.Running.{Drawing, Plays, IsScheduleRefused}
 use Rattle.csi_commands.specs.Public.Streaming.{StreamsAs, StreamEndsAs, TellsDevice}

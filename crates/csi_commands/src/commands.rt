@@ -7,17 +7,16 @@ ghost use Rattle.csi_commands.specs.Private.Ending.{ending_of_answer};
 
 use crate::drawing::Draws;
 use crate::running::play;
-use csi_endings::{Ending, FileCommand};
-use csi_streams::{AnswerFault, answer, show};
+use csi_streams::{Ending, FileCommand, SliceFault, answer, show};
 use std::alloc::Global;
 
 // The ending where not all frames were answered or shown.
-fn ending_of(fault: AnswerFault) -> Ending
+fn ending_of(fault: SliceFault) -> Ending
     ensures { result ≡ ending_of_answer fault }
 {
     match fault {
-        AnswerFault::Frame(kind, place) => Ending::FrameFault(kind, place),
-        AnswerFault::NoMemory => Ending::Memory,
+        SliceFault::Frame(kind, place) => Ending::FrameFault(kind, place),
+        SliceFault::NoMemory => Ending::Memory,
     }
 }
 

@@ -10,7 +10,7 @@ mod streaming;
 mod telling;
 
 pub use commands::file;
-pub use csi_streams::{AnswerFault, StreamFault, answer, answer_from, show, show_from};
+pub use csi_streams::{SliceFault, StreamFault, answer, answer_from, show, show_from};
 pub use drawing::Draws;
 pub use running::play;
 pub use streaming::stream;

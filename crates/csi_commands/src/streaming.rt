@@ -2,13 +2,12 @@
 ghost use Rattle.std.specs.Prelude.{◌≡◌};
 ghost use Rattle.csi_commands.specs.Public.Streaming.{StreamsAs, TellsDevice};
 ghost use Rattle.csi_commands.specs.Private.Streaming.{ReadsWhole, ending_of_stream, ending_of_written};
-ghost use Rattle.csi_endings.specs.declared.command.FileCommand.TheVariants as commands;
+ghost use Rattle.csi_streams.specs.declared.command.FileCommand.TheVariants as commands;
 
 use crate::drawing::Draws;
 use crate::running::play;
-use csi_endings::{Ending, FileCommand, ScheduleCommand};
 use csi_stores::{Counted, WriteFailed, write_out};
-use csi_streams::{StreamFault, answer_from, show_from};
+use csi_streams::{Ending, FileCommand, ScheduleCommand, StreamFault, answer_from, show_from};
 use std::alloc::Global;
 use std::io::{Read, Write};
 

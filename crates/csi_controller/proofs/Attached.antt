@@ -4,11 +4,11 @@ use Rattle.std.specs.Prelude.{Some, find, filter, ◌==◌}
 use Rattle.std.proofs.lemmas.List.{take_more, append-nil}
 use Rattle.std.proofs.lemmas.List.Elements.{filter-append}
 use Rattle.std.specs.List.{AllByRecursion}
-use Rattle.csi_lists.specs.Model.Members.{EachTwo}
-use Rattle.csi_lists.specs.Public.Places.{AtMostOne}
-use Rattle.csi_lists.proofs.Each.{each-append, each-weaker}
-use Rattle.csi_lists.proofs.Members.{each_of}
-use Rattle.csi_lists.proofs.Pairs.{two-joined}
+use Rattle.csi_types.specs.Model.Members.{EachTwo}
+use Rattle.csi_types.specs.Public.Places.{AtMostOne}
+use Rattle.csi_types.proofs.Each.{each-append, each-weaker}
+use Rattle.csi_types.proofs.Members.{each_of}
+use Rattle.csi_types.proofs.Pairs.{two-joined}
 use Rattle.csi_types.specs.declared.holding.Holding.{Holding}
 use Rattle.csi_controller.specs.declared.row.NodeHolding.{NodeHolding}
 use Rattle.csi_controller.specs.declared.row.ControllerRow.{ControllerRow}

@@ -2,9 +2,9 @@
 use Rattle.std.proofs.Common.{◌≡◌, ◌⊎◌, ◌≤◌, ℕ, true, refl, sym, ◌∙◌, ap, subst, inl, inr}
 use Rattle.std.specs.Prelude.{Option, Some, None, option_map, ◌==◌}
 use Rattle.std.proofs.lemmas.Option.{none-some, same_Some}
-use Rattle.csi_lists.proofs.Members.{among-find}
-use Rattle.csi_lists.proofs.Options.{some-from_map}
-use Rattle.csi_lists.specs.Model.Members.{IsAmong}
+use Rattle.csi_types.proofs.Members.{among-find}
+use Rattle.csi_types.proofs.Options.{some-from_map}
+use Rattle.csi_types.specs.Model.Members.{IsAmong}
 use Rattle.csi_types.specs.declared.number.Number.{Number}
 use Rattle.csi_types.specs.declared.call.Call.{Call}
 use Rattle.csi_types.specs.declared.call.Call.TheVariants as calls

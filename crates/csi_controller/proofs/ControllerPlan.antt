@@ -5,9 +5,9 @@ use Rattle.std.specs.declared.result.Result.TheVariants as results
 use Rattle.std.proofs.lemmas.Bool.{true≢false, not-true}
 use Rattle.std.proofs.lemmas.List.{length-append, map_push}
 use Rattle.std.proofs.lemmas.List.Elements.{recursion_from_All}
-use Rattle.csi_lists.proofs.Each.{each-append_one, each-at, each-filter, each-weaker}
-use Rattle.csi_lists.proofs.Filters.{filter-no_longer}
-use Rattle.csi_lists.proofs.Places.{AtMostOne-append, AtMostOne-filter}
+use Rattle.csi_types.proofs.Each.{each-append_one, each-at, each-filter, each-weaker}
+use Rattle.csi_types.proofs.Filters.{filter-no_longer}
+use Rattle.csi_types.proofs.Places.{AtMostOne-append, AtMostOne-filter}
 use Rattle.csi_types.proofs.Equality.{same_text-tells}
 use Rattle.csi_types.specs.declared.config.NodeSlots.{NodeSlots}
 use Rattle.csi_types.specs.Model.Same.{same_text}

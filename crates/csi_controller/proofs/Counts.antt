@@ -10,11 +10,11 @@ use Rattle.std.proofs.lemmas.List.Sums.{count_by-le-length}
 use Rattle.std.proofs.lemmas.Map.Views.{any-filter_same}
 use Rattle.std.proofs.Math.Bool.{or-false, or-true}
 use Rattle.std.proofs.lemmas.List.Folds.{list_any-append}
-use Rattle.csi_lists.proofs.Counts.{count-cons}
-use Rattle.csi_lists.proofs.Options.{some_is_not_none}
-use Rattle.csi_lists.proofs.Places.{FirstAt-find, FirstAt-position}
-use Rattle.csi_lists.proofs.Tests.{any-find, any-find_none}
-use Rattle.csi_lists.proofs.Searches.{find-filter_not, find-no_place}
+use Rattle.csi_types.proofs.Counts.{count-cons}
+use Rattle.csi_types.proofs.Options.{some_is_not_none}
+use Rattle.csi_types.proofs.Places.{FirstAt-find, FirstAt-position}
+use Rattle.csi_types.proofs.Tests.{any-find, any-find_none}
+use Rattle.csi_types.proofs.Searches.{find-filter_not, find-no_place}
 use Rattle.csi_types.proofs.Equality.{same_text-tells}
 use Rattle.csi_types.specs.declared.config.NodeSlots.{NodeSlots}
 use Rattle.csi_types.specs.Model.Config.{has_node}

@@ -4,10 +4,10 @@ use Rattle.std.specs.Prelude.{Option, Some, None, option_map, is_some, find, nat
 use Rattle.std.proofs.lemmas.Bool.{and_parts, eqb-true, true≢false, and_left}
 use Rattle.std.proofs.lemmas.Bool.Decides.{nat_tests}
 use Rattle.std.proofs.lemmas.Option.{none-some}
-use Rattle.csi_lists.proofs.Maps.{map-none}
-use Rattle.csi_lists.proofs.Members.{among-find, none_passes}
-use Rattle.csi_lists.proofs.Options.{none-from_map, option_map-map}
-use Rattle.csi_lists.proofs.Searches.{find-map, find-none, find-passes}
+use Rattle.csi_types.proofs.Maps.{map-none}
+use Rattle.csi_types.proofs.Members.{among-find, none_passes}
+use Rattle.csi_types.proofs.Options.{none-from_map, option_map-map}
+use Rattle.csi_types.proofs.Searches.{find-map, find-none, find-passes}
 use Rattle.csi_types.specs.declared.number.Number.{Number}
 use Rattle.csi_types.specs.declared.call.Call.{Call}
 use Rattle.csi_types.specs.declared.call.Kind.{Kind}

@@ -2,8 +2,8 @@
 use Rattle.std.proofs.Common.{◌≡◌, ℕ, true, false, List, [], ◌∷◌, map, refl, ◌∙◌}
 use Rattle.std.specs.Prelude.{None, find}
 use Rattle.std.specs.List.{AllByRecursion}
-use Rattle.csi_lists.specs.Model.Members.{EachTwo}
-use Rattle.csi_lists.specs.Public.Places.{AtMostOne}
+use Rattle.csi_types.specs.Model.Members.{EachTwo}
+use Rattle.csi_types.specs.Public.Places.{AtMostOne}
 use Rattle.csi_types.proofs.Equality.{same_text-tells}
 use Rattle.csi_types.specs.Model.Holding.{is_compatible, AreApart}
 use Rattle.csi_types.specs.Model.Same.{same_text}
@@ -13,7 +13,7 @@ use Rattle.csi_controller.specs.Public.Core.{AreCompatible, IsSoundRow, volume_h
 use Rattle.csi_controller.specs.Public.Exclusive.{IsRowExclusive}
 use Rattle.csi_controller.proofs.HoldingsApart.{apart}
 use Rattle.csi_controller.proofs.SameText.{text-turned}
-use Rattle.csi_lists.proofs.Members.{all_of, none_passes}
+use Rattle.csi_types.proofs.Members.{all_of, none_passes}
 
 -- no later one is at the same node
 pub other_nodes : (node : List ℕ) (later : List NodeHolding) → find (λ (h : NodeHolding). same_text h.node node) later ≡ None → AllByRecursion (λ (h : NodeHolding). same_text h.node node ≡ false) later

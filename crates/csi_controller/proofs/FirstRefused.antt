@@ -6,13 +6,13 @@ use Rattle.std.proofs.lemmas.Bool.{false_from_ne_true, false≢true, true≢fals
 use Rattle.std.proofs.lemmas.List.{take-append-drop, take_all}
 use Rattle.std.proofs.lemmas.List.Folds.{list_any-append}
 use Rattle.std.proofs.Math.Bool.{or-false, or_comm}
-use Rattle.csi_lists.proofs.Each.{each-weaker}
-use Rattle.csi_lists.proofs.Options.{none-from_is_some}
-use Rattle.csi_lists.proofs.Places.{AtMostOne-append}
-use Rattle.csi_lists.proofs.Searches.{find-none}
-use Rattle.csi_lists.proofs.Tests.{any-find, any-find_none}
-use Rattle.csi_lists.proofs.Members.{among-append, among-last, none_passes}
-use Rattle.csi_lists.specs.Public.Places.{AtMostOne}
+use Rattle.csi_types.proofs.Each.{each-weaker}
+use Rattle.csi_types.proofs.Options.{none-from_is_some}
+use Rattle.csi_types.proofs.Places.{AtMostOne-append}
+use Rattle.csi_types.proofs.Searches.{find-none}
+use Rattle.csi_types.proofs.Tests.{any-find, any-find_none}
+use Rattle.csi_types.proofs.Members.{among-append, among-last, none_passes}
+use Rattle.csi_types.specs.Public.Places.{AtMostOne}
 use Rattle.csi_types.proofs.Equality.{same_text-tells}
 use Rattle.csi_types.specs.Model.Same.{same_text}
 use Rattle.csi_fence.proofs.JudgedRows as judging

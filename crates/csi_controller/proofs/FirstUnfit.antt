@@ -5,7 +5,7 @@ use Rattle.std.specs.List.{AllByRecursion}
 use Rattle.std.proofs.lemmas.Bool.{eqb-true, leb-false, leb-true}
 use Rattle.std.proofs.Math.Nat.{le-max_left, le-max_right}
 use Rattle.std.proofs.lemmas.List.{take-append-drop, take-take}
-use Rattle.csi_lists.proofs.Each.{each-weaker}
+use Rattle.csi_types.proofs.Each.{each-weaker}
 use Rattle.csi_fence.proofs.JudgedRows.{each-front}
 use Rattle.csi_controller.specs.declared.row.ControllerRow.{ControllerRow}
 use Rattle.csi_controller.specs.Public.Core.{IsCurrentRow, IsCurrent}

@@ -3,9 +3,9 @@ use Rattle.std.proofs.Common.{◌≡◌, ℕ, List, Bool, true, false, refl, sym
 use Rattle.std.specs.Prelude.{Option, Some, None, find, filter, ◌==◌, ◌&&◌}
 use Rattle.std.proofs.lemmas.Bool.{and_parts, true≢false}
 use Rattle.std.proofs.Math.Bool.{and_comm}
-use Rattle.csi_lists.proofs.Members.{among-find, among-kept}
-use Rattle.csi_lists.proofs.Searches.{find-and, find-and_filter, find-filter, find-none_in_filter, find-passes, find-same}
-use Rattle.csi_lists.specs.Model.Members.{IsAmong}
+use Rattle.csi_types.proofs.Members.{among-find, among-kept}
+use Rattle.csi_types.proofs.Searches.{find-and, find-and_filter, find-filter, find-none_in_filter, find-passes, find-same}
+use Rattle.csi_types.specs.Model.Members.{IsAmong}
 use Rattle.csi_types.specs.Model.Same.{same_text}
 use Rattle.csi_controller.specs.Model.State.{Volume, ControllerState, live_volume}
 use Rattle.csi_controller.specs.Model.Fenced.{begun}

@@ -5,9 +5,9 @@ use Rattle.std.specs.List.{AllByRecursion, list_any}
 use Rattle.std.proofs.lemmas.Bool.{eq-eqb, eqb-true}
 use Rattle.std.proofs.lemmas.List.{map-append}
 use Rattle.std.proofs.lemmas.List.Elements.{filter_agree}
-use Rattle.csi_lists.proofs.Counts.{count-cons, count-one, count-split}
-use Rattle.csi_lists.proofs.Filters.{filter-append_one, filter-append_passes, filter-filter, filter-of_map, filter-swap, filter-none}
-use Rattle.csi_lists.specs.Public.Places.{AtMostOne}
+use Rattle.csi_types.proofs.Counts.{count-cons, count-one, count-split}
+use Rattle.csi_types.proofs.Filters.{filter-append_one, filter-append_passes, filter-filter, filter-of_map, filter-swap, filter-none}
+use Rattle.csi_types.specs.Public.Places.{AtMostOne}
 use Rattle.csi_types.specs.declared.holding.Holding.{Holding}
 use Rattle.csi_types.specs.Model.Same.{same_text}
 use Rattle.csi_controller.specs.declared.row.NodeHolding.{NodeHolding}

@@ -3,8 +3,8 @@ use Rattle.std.proofs.Common.{◌≡◌, ℕ, List, Bool, true, false, cond, ref
 use Rattle.std.specs.Prelude.{Option, Some, None, option_map, find, ◌==◌}
 use Rattle.std.specs.Option.{option_or}
 use Rattle.std.proofs.lemmas.Option.{none-some}
-use Rattle.csi_lists.proofs.Options.{option_or-none, option_or-some}
-use Rattle.csi_lists.proofs.Searches.{find-append, find-append_one, find-map}
+use Rattle.csi_types.proofs.Options.{option_or-none, option_or-some}
+use Rattle.csi_types.proofs.Searches.{find-append, find-append_one, find-map}
 use Rattle.csi_types.proofs.Equality.{same_text-tells}
 use Rattle.csi_types.specs.declared.call.Call.{Call}
 use Rattle.csi_types.specs.declared.call.Call.TheVariants as calls

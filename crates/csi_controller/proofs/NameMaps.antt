@@ -10,8 +10,8 @@ use Rattle.std.proofs.lemmas.Bool.{false≢true}
 use Rattle.std.proofs.lemmas.List.{length-map}
 use Rattle.indexmap.proofs.CallerLemmas.{insert_entry-new}
 use Rattle.indexmap.specs.IndexMap.{IndexMap, insert_entry}
-use Rattle.csi_lists.proofs.Filters.{filter-of_map}
-use Rattle.csi_lists.proofs.Members.{all_of}
+use Rattle.csi_types.proofs.Filters.{filter-of_map}
+use Rattle.csi_types.proofs.Members.{all_of}
 use Rattle.csi_fence.specs.Public.Rows.{AreRising, stays_in, IsPlaceOf}
 use Rattle.csi_fence.proofs.RisingRows.{rows_rise}
 use Rattle.csi_fence.proofs.KeptRows.{filter-alike}

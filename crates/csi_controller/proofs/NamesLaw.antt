@@ -4,9 +4,9 @@ use Rattle.std.specs.Prelude.{Option, Some, None, option_map, ◌==◌, ◌&&◌
 use Rattle.std.proofs.lemmas.Bool.{and_parts, eqb-true}
 use Rattle.std.proofs.lemmas.Option.{none-some, same_Some}
 use Rattle.std.specs.Option.{option_or}
-use Rattle.csi_lists.proofs.Members.{among-find}
-use Rattle.csi_lists.proofs.Options.{option_or-none, option_or-some, some-from_map}
-use Rattle.csi_lists.proofs.Searches.{find-append, find-map, find-passes}
+use Rattle.csi_types.proofs.Members.{among-find}
+use Rattle.csi_types.proofs.Options.{option_or-none, option_or-some, some-from_map}
+use Rattle.csi_types.proofs.Searches.{find-append, find-map, find-passes}
 use Rattle.csi_types.specs.declared.number.Number.{Number}
 use Rattle.csi_types.specs.declared.call.Call.{Call}
 use Rattle.csi_types.specs.Model.Config.{Config}

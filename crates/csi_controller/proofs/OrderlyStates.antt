@@ -3,10 +3,10 @@
 use Rattle.std.proofs.Common.{◌≡◌, ◌⊎◌, ℕ, ◌+◌, ◌<◌, List, [], ◌∷◌, ◌++◌, map, Bool, true, false, cond, refl, sym, ◌∙◌, ap, subst, inl, inr, arith}
 use Rattle.std.specs.Prelude.{Some, None, option_map, ◌==◌, ◌&&◌}
 use Rattle.std.proofs.lemmas.Bool.{and_parts, eqb-true, eq-eqb, ne_eqb}
-use Rattle.csi_lists.proofs.Members.{among-either, among-find, among-kept, among-map}
-use Rattle.csi_lists.proofs.Options.{option_or-some}
-use Rattle.csi_lists.proofs.Searches.{find-append, find-append_one, find-map, find-none, find-passes}
-use Rattle.csi_lists.specs.Model.Members.{IsAmong}
+use Rattle.csi_types.proofs.Members.{among-either, among-find, among-kept, among-map}
+use Rattle.csi_types.proofs.Options.{option_or-some}
+use Rattle.csi_types.proofs.Searches.{find-append, find-append_one, find-map, find-none, find-passes}
+use Rattle.csi_types.specs.Model.Members.{IsAmong}
 use Rattle.csi_types.proofs.Equality.{same_text-tells}
 use Rattle.csi_types.specs.declared.number.Number.{Number}
 use Rattle.csi_types.specs.declared.call.Call.{Call}

@@ -4,10 +4,10 @@ use Rattle.std.specs.Prelude.{Some, None, ◌==◌, ◌&&◌, ◌||◌, nat_le, 
 use Rattle.std.specs.List.{list_all, AllByRecursion}
 use Rattle.std.proofs.lemmas.Bool.{and_parts, and_from, or_cases, eqb-true, eq-eqb, leb-true, not-true, or_left, or_right, and_left, not_from_false, not_from_true}
 use Rattle.std.proofs.lemmas.Bool.Decides.{nat_tests}
-use Rattle.csi_lists.proofs.Filters.{filter-append_one, filter-filter, filter-map}
-use Rattle.csi_lists.proofs.Searches.{find-and, find-append_one, find-filtered, find-map_none, find-passes}
-use Rattle.csi_lists.proofs.Members.{all_of}
-use Rattle.csi_lists.proofs.Tests.{all-then, then-all}
+use Rattle.csi_types.proofs.Filters.{filter-append_one, filter-filter, filter-map}
+use Rattle.csi_types.proofs.Searches.{find-and, find-append_one, find-filtered, find-map_none, find-passes}
+use Rattle.csi_types.proofs.Members.{all_of}
+use Rattle.csi_types.proofs.Tests.{all-then, then-all}
 use Rattle.csi_types.proofs.Equality.{same_text-tells, same_capability-tells, same_holding-tells}
 use Rattle.csi_types.specs.declared.capability.Capability.{Capability}
 use Rattle.csi_types.specs.declared.holding.Holding.{Holding}

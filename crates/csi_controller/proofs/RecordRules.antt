@@ -6,11 +6,11 @@ use Rattle.std.proofs.lemmas.Bool.{not-true}
 use Rattle.std.proofs.lemmas.List.{length-map}
 use Rattle.std.proofs.lemmas.List.Elements.{All-from_recursion, filter_agree, recursion_from_All}
 use Rattle.std.proofs.Math.Bool.{not-not}
-use Rattle.csi_lists.specs.Model.Members.{EachTwo}
-use Rattle.csi_lists.specs.Public.Places.{AtMostOne}
-use Rattle.csi_lists.proofs.Each.{each-map, each-weaker}
-use Rattle.csi_lists.proofs.Filters.{filter-of_map}
-use Rattle.csi_lists.proofs.Options.{none-from_map}
+use Rattle.csi_types.specs.Model.Members.{EachTwo}
+use Rattle.csi_types.specs.Public.Places.{AtMostOne}
+use Rattle.csi_types.proofs.Each.{each-map, each-weaker}
+use Rattle.csi_types.proofs.Filters.{filter-of_map}
+use Rattle.csi_types.proofs.Options.{none-from_map}
 use Rattle.csi_types.specs.declared.config.NodeSlots.{NodeSlots}
 use Rattle.csi_types.specs.Model.Same.{same_text}
 use Rattle.csi_fence.specs.Public.Rows.{AreKept, AreRising, IsCurrentRow, stays_in}
@@ -23,8 +23,8 @@ use Rattle.csi_controller.specs.Public.Counts.{AreCounted}
 use Rattle.csi_controller.specs.Public.Names.{by_name}
 use Rattle.csi_controller.specs.Public.OneRow.{RowShown, row_shown}
 use Rattle.csi_controller.specs.Public.Plan.{Fits, IsFree, IsSoundBy, controller_plan}
-use Rattle.csi_lists.proofs.Pairs.{two-map}
-use Rattle.csi_lists.proofs.Searches.{find-of_map}
+use Rattle.csi_types.proofs.Pairs.{two-map}
+use Rattle.csi_types.proofs.Searches.{find-of_map}
 use Rattle.csi_controller.proofs.Sound.{two-rise}
 use Rattle.csi_controller.proofs.SoundRows.{sound-row, sound-shown}
 

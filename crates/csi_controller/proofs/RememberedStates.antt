@@ -3,9 +3,9 @@
 use Rattle.std.proofs.Common.{◌≡◌, ◌⊎◌, ◌≤◌, ℕ, List, ◌∷◌, Bool, true, false, cond, refl, sym, ◌∙◌, subst, inl, inr, arith}
 use Rattle.std.specs.Prelude.{nat_lt, ◌==◌}
 use Rattle.std.proofs.lemmas.Bool.{eq-eqb, ltb-true, true≢false}
-use Rattle.csi_lists.proofs.Counts.{count-either}
-use Rattle.csi_lists.proofs.Members.{among-either, among-kept, among-map}
-use Rattle.csi_lists.specs.Model.Members.{IsAmong}
+use Rattle.csi_types.proofs.Counts.{count-either}
+use Rattle.csi_types.proofs.Members.{among-either, among-kept, among-map}
+use Rattle.csi_types.specs.Model.Members.{IsAmong}
 use Rattle.csi_types.specs.declared.number.Number.{Number}
 use Rattle.csi_types.specs.declared.call.Call.{Call}
 use Rattle.csi_types.specs.declared.call.Call.TheVariants as calls

@@ -2,7 +2,7 @@
 use Rattle.std.proofs.Common.{◌≡◌, ℕ, Bool, true, cond, not, List, map, length, ◌∙◌, ap}
 use Rattle.std.specs.Prelude.{Option, Some, None, find, option_map, ◌||◌, nat_le, codes}
 use Rattle.std.proofs.lemmas.List.{length-map}
-use Rattle.csi_lists.proofs.Searches.{find-of_map}
+use Rattle.csi_types.proofs.Searches.{find-of_map}
 use Rattle.csi_types.specs.declared.config.NodeSlots.{NodeSlots}
 use Rattle.csi_types.specs.declared.status.Status.TheVariants.{AlreadyExists, ResourceExhausted}
 use Rattle.csi_types.specs.Model.Config.{has_node}

@@ -3,10 +3,10 @@ use Rattle.std.proofs.Common.{◌≡◌, ℕ, Bool, true, cond, not, List, map, 
 use Rattle.std.specs.Prelude.{Option, Some, None, find, option_map, ◌&&◌, ◌==◌, nat_le, codes}
 use Rattle.std.specs.List.{list_any}
 use Rattle.std.proofs.lemmas.Bool.{eqb-true}
-use Rattle.csi_lists.proofs.Filters.{filter-all, filter-of_map}
-use Rattle.csi_lists.proofs.Places.{FirstAt-find, FirstAt-only, find-and_first}
-use Rattle.csi_lists.proofs.Searches.{find-and_filter, find-and_none, find-of_map}
-use Rattle.csi_lists.specs.Public.Places.{IsAt}
+use Rattle.csi_types.proofs.Filters.{filter-all, filter-of_map}
+use Rattle.csi_types.proofs.Places.{FirstAt-find, FirstAt-only, find-and_first}
+use Rattle.csi_types.proofs.Searches.{find-and_filter, find-and_none, find-of_map}
+use Rattle.csi_types.specs.Public.Places.{IsAt}
 use Rattle.csi_types.specs.declared.call.Call.{Call}
 use Rattle.csi_types.specs.declared.call.Call.TheVariants as calls
 use Rattle.csi_types.specs.declared.config.NodeSlots.{NodeSlots}

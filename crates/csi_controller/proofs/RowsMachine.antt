@@ -6,15 +6,15 @@ use Rattle.std.specs.Option.{option_or}
 use Rattle.std.proofs.lemmas.List.{length-map, map-append}
 use Rattle.std.proofs.Math.Bool.{not-not}
 use Rattle.std.proofs.lemmas.List.Elements.{filter_agree}
-use Rattle.csi_lists.proofs.Each.{each-filter, each-weaker}
-use Rattle.csi_lists.proofs.Filters.{filter-of_map}
-use Rattle.csi_lists.proofs.Maps.{map-none_shown}
-use Rattle.csi_lists.proofs.Places.{AtMostOne-filter, FirstAt-is_at, FirstAt-passes, FirstAt-within}
-use Rattle.csi_lists.proofs.Searches.{find-of_map, find-append}
-use Rattle.csi_lists.proofs.PassingByKey.{find-passing, passing}
-use Rattle.csi_lists.proofs.Members.{among-find, each_of}
-use Rattle.csi_lists.proofs.Options.{option_or-none, option_or-some}
-use Rattle.csi_lists.specs.Public.Places.{AtMostOne, FirstAt, IsAt}
+use Rattle.csi_types.proofs.Each.{each-filter, each-weaker}
+use Rattle.csi_types.proofs.Filters.{filter-of_map}
+use Rattle.csi_types.proofs.Maps.{map-none_shown}
+use Rattle.csi_types.proofs.Places.{AtMostOne-filter, FirstAt-is_at, FirstAt-passes, FirstAt-within}
+use Rattle.csi_types.proofs.Searches.{find-of_map, find-append}
+use Rattle.csi_types.proofs.PassingByKey.{find-passing, passing}
+use Rattle.csi_types.proofs.Members.{among-find, each_of}
+use Rattle.csi_types.proofs.Options.{option_or-none, option_or-some}
+use Rattle.csi_types.specs.Public.Places.{AtMostOne, FirstAt, IsAt}
 use Rattle.csi_types.specs.declared.call.Call.{Call}
 use Rattle.csi_types.specs.declared.call.Call.TheVariants as calls
 use Rattle.csi_types.specs.declared.call.Kind.TheVariants as kinds

@@ -4,8 +4,8 @@ use Rattle.std.specs.Prelude.{Option, Some, None, find, is_some, ◌||◌, nat_l
 use Rattle.std.proofs.lemmas.Bool.{eqb-true}
 use Rattle.std.proofs.lemmas.Bool.Decides.{nat_tests}
 use Rattle.std.proofs.lemmas.List.{length-map}
-use Rattle.csi_lists.proofs.Options.{none-from_map, some_is_not_none, is_some-map}
-use Rattle.csi_lists.proofs.Searches.{find-of_map}
+use Rattle.csi_types.proofs.Options.{none-from_map, some_is_not_none, is_some-map}
+use Rattle.csi_types.proofs.Searches.{find-of_map}
 use Rattle.csi_types.specs.declared.call.Call.{Call}
 use Rattle.csi_types.specs.declared.call.Call.TheVariants as calls
 use Rattle.csi_types.specs.declared.capability.Capability.{Capability}

@@ -2,11 +2,11 @@
 use Rattle.std.proofs.Common.{◌≡◌, ◌⊎◌, ℕ, List, [], ◌∷◌, Bool, true, false, cond, not, refl, sym, ◌∙◌, ap, subst, inl, inr}
 use Rattle.std.specs.Prelude.{Some, None, is_some, find, ◌==◌, ◌&&◌, IsSome}
 use Rattle.std.proofs.lemmas.Bool.{eq-eqb, not-false}
-use Rattle.csi_lists.proofs.Members.{among-either, among-filter, in_filter, none_kept, none_passes}
-use Rattle.csi_lists.proofs.Options.{is_some-map, option_or-is_some}
-use Rattle.csi_lists.proofs.Pairs.{two-append, two-filter}
-use Rattle.csi_lists.proofs.Searches.{find-append, find-map}
-use Rattle.csi_lists.specs.Model.Members.{IsAmong}
+use Rattle.csi_types.proofs.Members.{among-either, among-filter, in_filter, none_kept, none_passes}
+use Rattle.csi_types.proofs.Options.{is_some-map, option_or-is_some}
+use Rattle.csi_types.proofs.Pairs.{two-append, two-filter}
+use Rattle.csi_types.proofs.Searches.{find-append, find-map}
+use Rattle.csi_types.specs.Model.Members.{IsAmong}
 use Rattle.csi_types.specs.declared.capability.Capability.{Capability}
 use Rattle.csi_types.specs.declared.holding.Holding.{Holding}
 use Rattle.csi_types.specs.declared.number.Number.{Number}

@@ -1,6 +1,6 @@
 -- The test whether two texts are the same is symmetric.
 use Rattle.std.proofs.Common.{◌≡◌, List, ℕ, sym}
-use Rattle.csi_lists.proofs.Tests.{alike}
+use Rattle.csi_types.proofs.Tests.{alike}
 use Rattle.csi_types.proofs.Equality.{same_text-tells}
 use Rattle.csi_types.specs.Model.Same.{same_text}
 

@@ -2,8 +2,8 @@
 use Rattle.std.proofs.Common.{◌≡◌, ◌⊎◌, ◌≤◌, ◌+◌, ℕ, length, Bool, true, false, List, refl, inl, inr}
 use Rattle.std.specs.Prelude.{◌==◌, count_by}
 use Rattle.std.proofs.lemmas.Bool.{eq-eqb}
-use Rattle.csi_lists.proofs.Counts.{count-either}
-use Rattle.csi_lists.proofs.Members.{each_of}
+use Rattle.csi_types.proofs.Counts.{count-either}
+use Rattle.csi_types.proofs.Members.{each_of}
 use Rattle.csi_controller.specs.declared.row.ControllerRow.{ControllerRow}
 use Rattle.csi_controller.specs.Public.Core.{IsCurrentRow, IsCurrent}
 

@@ -3,9 +3,9 @@ use Rattle.std.proofs.Common.{◌≡◌, ℕ, Bool, true, false, cond, List, map
 use Rattle.std.specs.Prelude.{find, filter, ◌==◌}
 use Rattle.std.proofs.Math.ListN.{set}
 use Rattle.std.proofs.lemmas.Bool.{eqb-true}
-use Rattle.csi_lists.proofs.Maps.{map-twice}
-use Rattle.csi_lists.proofs.Places.{FirstAt-find, FirstAt-only, find-set_first, find-set_other, map-first}
-use Rattle.csi_lists.specs.Public.Places.{AtMostOne, FirstAt, IsAt}
+use Rattle.csi_types.proofs.Maps.{map-twice}
+use Rattle.csi_types.proofs.Places.{FirstAt-find, FirstAt-only, find-set_first, find-set_other, map-first}
+use Rattle.csi_types.specs.Public.Places.{AtMostOne, FirstAt, IsAt}
 use Rattle.csi_types.specs.declared.holding.Holding.{Holding}
 use Rattle.csi_types.specs.declared.call.Call.{Call}
 use Rattle.csi_types.specs.declared.call.Call.TheVariants.{DeleteVolume}

@@ -3,9 +3,9 @@ use Rattle.std.proofs.Common.{◌≡◌, ℕ, List, map, refl, ◌∙◌, ap, �
 use Rattle.std.proofs.lemmas.Bool.{lt-ltb}
 use Rattle.std.specs.Prelude.{Option, Some, None, option_map, find, ◌==◌}
 use Rattle.std.specs.List.{AllByRecursion}
-use Rattle.csi_lists.proofs.Maps.{map-twice}
-use Rattle.csi_lists.proofs.Searches.{find-of_map}
-use Rattle.csi_lists.specs.Public.Places.{AtMostOne}
+use Rattle.csi_types.proofs.Maps.{map-twice}
+use Rattle.csi_types.proofs.Searches.{find-of_map}
+use Rattle.csi_types.specs.Public.Places.{AtMostOne}
 use Rattle.csi_types.specs.Model.Same.{same_text}
 use Rattle.csi_fence.specs.Public.Rows.{AreRising, RowsState, put_row}
 use Rattle.csi_fence.proofs.RisingRows.{once-rise, rows_rise}

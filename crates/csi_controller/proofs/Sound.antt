@@ -2,14 +2,14 @@
 use Rattle.std.proofs.Common.{◌≡◌, ◌<◌, ◌≤◌, ℕ, length, Bool, cond, List, [], ◌∷◌, sym, ◌∙◌, ap, inl, inr, arith}
 use Rattle.std.specs.Prelude.{Some, find, filter, ◌==◌}
 use Rattle.std.proofs.lemmas.Bool.{eq-eqb, ne_eqb}
-use Rattle.csi_lists.proofs.Each.{each-filter}
-use Rattle.csi_lists.proofs.Filters.{filter-no_longer}
-use Rattle.csi_lists.proofs.Members.{each_of}
-use Rattle.csi_lists.proofs.Pairs.{two-filter}
-use Rattle.csi_lists.proofs.PassingByKey.{once-rising}
-use Rattle.csi_lists.proofs.Places.{AtMostOne-filter}
-use Rattle.csi_lists.specs.Model.Members.{EachTwo, IsAmong}
-use Rattle.csi_lists.specs.Public.Places.{AtMostOne}
+use Rattle.csi_types.proofs.Each.{each-filter}
+use Rattle.csi_types.proofs.Filters.{filter-no_longer}
+use Rattle.csi_types.proofs.Members.{each_of}
+use Rattle.csi_types.proofs.Pairs.{two-filter}
+use Rattle.csi_types.proofs.PassingByKey.{once-rising}
+use Rattle.csi_types.proofs.Places.{AtMostOne-filter}
+use Rattle.csi_types.specs.Model.Members.{EachTwo, IsAmong}
+use Rattle.csi_types.specs.Public.Places.{AtMostOne}
 use Rattle.csi_controller.specs.declared.row.ControllerRow.{ControllerRow}
 use Rattle.csi_controller.specs.Public.Core.{AreRisingRows, AreSoundRows, IsSoundRow}
 use Rattle.csi_types.specs.Model.Same.{same_text}

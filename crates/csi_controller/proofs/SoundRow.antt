@@ -5,9 +5,9 @@ use Rattle.std.specs.Prelude.{None, find, ◌==◌, ◌&&◌, ◌||◌, nat_le}
 use Rattle.std.specs.List.{AllByRecursion, list_all}
 use Rattle.std.proofs.lemmas.Bool.{eq-eqb, eqb-false, eqb-true, le-leb, leb-true, ne_eqb, not-true, not_from_false, true≢false}
 use Rattle.std.proofs.lemmas.Bool.Decides.{Decides-and, Decides-ltb}
-use Rattle.csi_lists.proofs.Members.{each_of}
-use Rattle.csi_lists.proofs.Searches.{find-none}
-use Rattle.csi_lists.specs.Public.Places.{AtMostOne}
+use Rattle.csi_types.proofs.Members.{each_of}
+use Rattle.csi_types.proofs.Searches.{find-none}
+use Rattle.csi_types.specs.Public.Places.{AtMostOne}
 use Rattle.csi_types.proofs.Equality.{same_text-tells}
 use Rattle.csi_types.specs.declared.call.Party.TheVariants.{Controller}
 use Rattle.csi_types.specs.declared.capability.Capability.{Capability}

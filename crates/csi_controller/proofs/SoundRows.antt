@@ -4,10 +4,10 @@ use Rattle.std.specs.Prelude.{None, find, filter, ◌&&◌, IsTrue}
 use Rattle.std.specs.List.{AllByRecursion}
 use Rattle.std.proofs.lemmas.Bool.{false≢true}
 use Rattle.std.proofs.lemmas.List.{length-append}
-use Rattle.csi_lists.proofs.Each.{each-append_one, each-filter, each-weaker}
-use Rattle.csi_lists.proofs.Filters.{filter-no_longer}
-use Rattle.csi_lists.proofs.Places.{AtMostOne-append, AtMostOne-filter}
-use Rattle.csi_lists.proofs.Searches.{find_none-all}
+use Rattle.csi_types.proofs.Each.{each-append_one, each-filter, each-weaker}
+use Rattle.csi_types.proofs.Filters.{filter-no_longer}
+use Rattle.csi_types.proofs.Places.{AtMostOne-append, AtMostOne-filter}
+use Rattle.csi_types.proofs.Searches.{find_none-all}
 use Rattle.csi_types.specs.declared.capability.Capability.{Capability}
 use Rattle.csi_types.specs.Model.Holding.{is_compatible, is_second_writer}
 use Rattle.csi_types.specs.Model.Sharing.{is_multi_node}

@@ -2,9 +2,9 @@
 use Rattle.std.proofs.Common.{◌≡◌, ℕ, ◌<◌, ◌⊎◌, List, ◌∷◌, [], ◌++◌, map, Bool, true, false, cond, ◌∙◌, ap, refl, inl, inr, arith}
 use Rattle.std.specs.Prelude.{None, find, ◌==◌, ◌&&◌}
 use Rattle.std.proofs.lemmas.Bool.{ne_eqb, and_right}
-use Rattle.csi_lists.specs.Model.Members.{IsAmong}
-use Rattle.csi_lists.proofs.Members.{among-either, among-map, none_passes}
-use Rattle.csi_lists.proofs.Searches.{find-none}
+use Rattle.csi_types.specs.Model.Members.{IsAmong}
+use Rattle.csi_types.proofs.Members.{among-either, among-map, none_passes}
+use Rattle.csi_types.proofs.Searches.{find-none}
 use Rattle.csi_types.specs.declared.call.Call.{Call}
 use Rattle.csi_fence.specs.Model.Fence.{Kept}
 use Rattle.csi_controller.specs.Model.State.{Volume, ControllerState, live_volume}

@@ -4,9 +4,9 @@ use Rattle.std.specs.Prelude.{Option, Some, None, option_map, ◌==◌, ◌&&◌
 use Rattle.std.specs.List.{AllByRecursion}
 use Rattle.std.proofs.lemmas.Bool.{not-true}
 use Rattle.std.proofs.lemmas.List.{length-map}
-use Rattle.csi_lists.proofs.Filters.{filter-map}
-use Rattle.csi_lists.proofs.Maps.{map-map}
-use Rattle.csi_lists.proofs.Searches.{find-map, find-passes}
+use Rattle.csi_types.proofs.Filters.{filter-map}
+use Rattle.csi_types.proofs.Maps.{map-map}
+use Rattle.csi_types.proofs.Searches.{find-map, find-passes}
 use Rattle.csi_types.specs.declared.capability.Capability.{Capability}
 use Rattle.csi_types.specs.declared.holding.Holding.{Holding}
 use Rattle.csi_types.specs.declared.number.Number.{Number}

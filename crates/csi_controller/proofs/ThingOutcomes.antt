@@ -3,10 +3,10 @@ use Rattle.std.proofs.Common.{◌≡◌, ◌≢◌, ℕ, List, ◌∷◌, map, B
 use Rattle.std.specs.Prelude.{Option, Some, None, option_map, ◌==◌, ◌&&◌}
 use Rattle.std.proofs.lemmas.Bool.{and_parts, and_from, eqb-true, eq-eqb, true≢false, and_left}
 use Rattle.std.proofs.lemmas.Option.{none-some, same_Some}
-use Rattle.csi_lists.proofs.Members.{among-map, none_passes}
-use Rattle.csi_lists.proofs.Options.{option_map-map}
-use Rattle.csi_lists.proofs.Searches.{find-and, find-append_one, find-append_other, find-filter, find-filter_not, find-map_among, find-none, find-passes}
-use Rattle.csi_lists.specs.Model.Members.{IsAmong}
+use Rattle.csi_types.proofs.Members.{among-map, none_passes}
+use Rattle.csi_types.proofs.Options.{option_map-map}
+use Rattle.csi_types.proofs.Searches.{find-and, find-append_one, find-append_other, find-filter, find-filter_not, find-map_among, find-none, find-passes}
+use Rattle.csi_types.specs.Model.Members.{IsAmong}
 use Rattle.csi_types.proofs.Equality.{same_text-tells}
 use Rattle.csi_types.specs.declared.capability.Capability.{Capability}
 use Rattle.csi_types.specs.declared.holding.Holding.{Holding}

@@ -59,7 +59,7 @@ impl Controller {
     ghost use Rattle.csi_controller.specs.Public.Raised.{raised};
     ghost use Rattle.csi_fence.specs.Public.Repeats.{IsPlainRepeat};
     ghost use Rattle.csi_controller.specs.Public.Step.{answer_frame};
-    ghost use Rattle.csi_lists.specs.Model.Members.{EachTwo};
+    ghost use Rattle.csi_types.specs.Model.Members.{EachTwo};
     ghost use Rattle.csi_controller.specs.Public.Views.{shown_if_live, attached_holdings, IsHeldBefore, HasHoldingsOf, IsCopyOf, IsRowOf};
     ghost use Rattle.csi_controller.specs.Model.Core.{Shows};
     ghost use Rattle.csi_controller.specs.Public.Core.{IsAnsweredOk, IsUndoing};

@@ -3,7 +3,7 @@ use Rattle.std.proofs.Common.{◌≡◌, ◌∙◌, ◌<◌, ◌+◌, ℕ, zero,
 use Rattle.std.specs.Prelude.{Option, Some, None}
 use Rattle.std.proofs.Math.Seq.{map-set_same}
 use Rattle.std.proofs.lemmas.List.{length-map, get_or-map, take_more}
-use Rattle.csi_lists.specs.Model.Members.{IsAmong}
+use Rattle.csi_types.specs.Model.Members.{IsAmong}
 use Rattle.csi_node.specs.Model.Record.{NodeParts}
 use Rattle.csi_embedded.specs.declared.ending.CallEnding.{CallEnding}
 use Rattle.csi_embedded.specs.declared.ending.CallEnding.TheVariants.{NoMemory, OtherKind}

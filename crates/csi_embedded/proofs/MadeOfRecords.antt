@@ -3,8 +3,8 @@ use Rattle.std.proofs.Common.{◌≡◌, ◌∙◌, ◌<◌, ◌≤◌, ◌+◌,
 use Rattle.std.specs.Prelude.{Option, Some, None, is_none}
 use Rattle.std.specs.List.{list_any}
 use Rattle.std.proofs.lemmas.Bool.{true≢false, ltb-false}
-use Rattle.csi_lists.proofs.Options.{some_is_not_none}
-use Rattle.csi_lists.proofs.Tests.{then-any, any-none}
+use Rattle.csi_types.proofs.Options.{some_is_not_none}
+use Rattle.csi_types.proofs.Tests.{then-any, any-none}
 use Rattle.csi_types.specs.Model.Same.{same_text}
 use Rattle.csi_types.proofs.Equality.{same_text-tells}
 use Rattle.csi_controller.specs.Model.State.{ControllerState}

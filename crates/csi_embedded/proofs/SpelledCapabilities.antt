@@ -15,7 +15,7 @@ use Rattle.csi_frames.specs.Public.Grammar.{End}
 use Rattle.csi_frames.specs.Public.Reading.{capability_at}
 use Rattle.csi_frames.specs.Public.Spelling.{access, capability}
 use Rattle.csi_types.specs.Model.Mode.{mode_number}
-use Rattle.csi_lists.proofs.Each.{each-append_one}
+use Rattle.csi_types.proofs.Each.{each-append_one}
 use Rattle.csi_records.proofs.WritingPieces.{flat_map-push}
 use Rattle.csi_frames.proofs.CapabilityReaders.{capability_agrees}
 use Rattle.csi_frames.proofs.Codes.{TakesMode}

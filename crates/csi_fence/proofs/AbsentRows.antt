@@ -11,8 +11,8 @@ use Rattle.csi_types.specs.declared.reply.Reply.{Reply}
 use Rattle.csi_types.specs.declared.rows.TheConstants.{MAX_ROWS}
 use Rattle.csi_types.specs.Model.Call.{kind_of}
 use Rattle.csi_types.specs.Public.Frame.{IsAllowed}
-use Rattle.csi_lists.proofs.Counts.{count-cons}
-use Rattle.csi_lists.proofs.Members.{among-find, one-of_all}
+use Rattle.csi_types.proofs.Counts.{count-cons}
+use Rattle.csi_types.proofs.Members.{among-find, one-of_all}
 use Rattle.csi_fence.specs.declared.answer.Answer.{Answer}
 use Rattle.csi_fence.specs.Model.Fence.{begins}
 use Rattle.csi_fence.specs.Public.Rows.{Answered, AreKept, AreRising, IsAnswered, IsCurrentRow, Made, Plan, RowsState, put_row, staying, stays_in}

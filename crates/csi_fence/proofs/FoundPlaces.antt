@@ -3,8 +3,8 @@ use Rattle.std.proofs.Common.{◌≡◌, ℕ, zero, suc, List, [], ◌∷◌, re
 use Rattle.std.specs.Prelude.{Some, None, position, ◌==◌}
 use Rattle.std.specs.Result.{result_ok}
 use Rattle.std.proofs.lemmas.Bool.Decides.{nat_tests}
-use Rattle.csi_lists.specs.Public.Places.{FirstAt}
-use Rattle.csi_lists.proofs.Places.{position-first, position-none}
+use Rattle.csi_types.specs.Public.Places.{FirstAt}
+use Rattle.csi_types.proofs.Places.{position-first, position-none}
 use Rattle.csi_fence.specs.Public.Rows.{AreRising, IsGapFor, IsPlaceOf}
 use Rattle.csi_fence.proofs.PlacedRows.{NoneBefore}
 use Rattle.csi_fence.proofs.RisingRows.{id_at-row}

@@ -4,10 +4,10 @@ use Rattle.std.specs.Prelude.{◌&&◌, nat_lt}
 use Rattle.std.specs.List.{AllByRecursion}
 use Rattle.std.proofs.lemmas.Bool.{and_from, and_parts, lt-ltb, ltb-true}
 use Rattle.std.proofs.lemmas.List.{length-append, length_push, take-append-drop, take_more}
-use Rattle.csi_lists.specs.Model.Members.{EachTwo}
-use Rattle.csi_lists.proofs.Each.{each-append_one, each-weaker}
-use Rattle.csi_lists.proofs.Members.{all_of, among-append, among-last, each_of}
-use Rattle.csi_lists.proofs.Pairs.{two-append}
+use Rattle.csi_types.specs.Model.Members.{EachTwo}
+use Rattle.csi_types.proofs.Each.{each-append_one, each-weaker}
+use Rattle.csi_types.proofs.Members.{all_of, among-append, among-last, each_of}
+use Rattle.csi_types.proofs.Pairs.{two-append}
 use Rattle.csi_fence.proofs.RisingRows.{IsBefore}
 
 -- what is so of each of a list is so of its last

@@ -7,10 +7,10 @@ use Rattle.std.proofs.lemmas.Bool.Decides.{nat_tests}
 use Rattle.std.proofs.lemmas.List.Elements.{All-filter, All-from_recursion, filter_passes, recursion_from_All}
 use Rattle.csi_types.specs.declared.number.Number.{Number}
 use Rattle.csi_types.specs.declared.rows.TheConstants.{MAX_ROWS}
-use Rattle.csi_lists.specs.Model.Members.{EachTwo}
-use Rattle.csi_lists.proofs.Each.{each-filter, each-weaker}
-use Rattle.csi_lists.proofs.Filters.{filter-each, filter-no_longer}
-use Rattle.csi_lists.proofs.Counts.{count-cons}
+use Rattle.csi_types.specs.Model.Members.{EachTwo}
+use Rattle.csi_types.proofs.Each.{each-filter, each-weaker}
+use Rattle.csi_types.proofs.Filters.{filter-each, filter-no_longer}
+use Rattle.csi_types.proofs.Counts.{count-cons}
 use Rattle.csi_fence.specs.Model.Fence.{begins}
 use Rattle.csi_fence.specs.Public.Rows.{AreKept, AreRising, IsCurrentRow, Plan, RowsState, put_row, staying, stays_in}
 use Rattle.csi_fence.proofs.PutRows.{put-first}

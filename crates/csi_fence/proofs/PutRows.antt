@@ -5,11 +5,11 @@ use Rattle.std.specs.List.{insert, AllByRecursion}
 use Rattle.std.proofs.lemmas.Bool.{eqb-true, ltb-true}
 use Rattle.std.proofs.lemmas.Bool.Decides.{nat_tests}
 use Rattle.std.proofs.lemmas.List.Elements.{All-from_recursion, recursion_from_All}
-use Rattle.csi_lists.specs.Model.Members.{EachTwo}
-use Rattle.csi_lists.specs.Public.Places.{AtMostOne}
-use Rattle.csi_lists.proofs.Each.{each-weaker}
-use Rattle.csi_lists.proofs.Options.{some_is_not_none}
-use Rattle.csi_lists.proofs.Searches.{find-missed}
+use Rattle.csi_types.specs.Model.Members.{EachTwo}
+use Rattle.csi_types.specs.Public.Places.{AtMostOne}
+use Rattle.csi_types.proofs.Each.{each-weaker}
+use Rattle.csi_types.proofs.Options.{some_is_not_none}
+use Rattle.csi_types.proofs.Searches.{find-missed}
 use Rattle.csi_fence.specs.Public.Rows.{AreRising, IsGapFor, IsPlaceOf, id_of, put_row}
 use Rattle.csi_fence.proofs.RisingRows.{IsBefore, rise-rows, rows_rise}
 

@@ -3,11 +3,11 @@ use Rattle.std.proofs.Common.{◌≡◌, ℕ, zero, suc, ◌<◌, List, [], ◌�
 use Rattle.std.specs.Prelude.{◌==◌, filter, slice_get}
 use Rattle.std.specs.List.{AllByRecursion}
 use Rattle.std.proofs.lemmas.Option.{slice_get-get_or}
-use Rattle.csi_lists.specs.Model.Members.{EachTwo}
-use Rattle.csi_lists.specs.Public.Places.{AtMostOne}
-use Rattle.csi_lists.proofs.Each.{each-place}
-use Rattle.csi_lists.proofs.Pairs.{two-filter}
-use Rattle.csi_lists.proofs.PassingByKey.{once-rising}
+use Rattle.csi_types.specs.Model.Members.{EachTwo}
+use Rattle.csi_types.specs.Public.Places.{AtMostOne}
+use Rattle.csi_types.proofs.Each.{each-place}
+use Rattle.csi_types.proofs.Pairs.{two-filter}
+use Rattle.csi_types.proofs.PassingByKey.{once-rising}
 use Rattle.csi_fence.specs.Public.Rows.{AreRising, id_of}
 
 module _ {S : Type 0} (id : S → ℕ) where

@@ -6,9 +6,9 @@ use Rattle.std.proofs.lemmas.Bool.{ltb-true}
 use Rattle.std.proofs.lemmas.List.Folds.{find_at}
 use Rattle.std.proofs.lemmas.Option.{same_Some, slice_get-get_or, slice_get-map, slice_get_read, slice_get_within}
 use Rattle.csi_types.specs.declared.number.Number.{Number}
-use Rattle.csi_lists.specs.Public.Places.{AtMostOne, IsAt}
-use Rattle.csi_lists.proofs.PassingByKey.{find-passing, passing}
-use Rattle.csi_lists.proofs.Searches.{find-none_in_filter, find-no_place}
+use Rattle.csi_types.specs.Public.Places.{AtMostOne, IsAt}
+use Rattle.csi_types.proofs.PassingByKey.{find-passing, passing}
+use Rattle.csi_types.proofs.Searches.{find-none_in_filter, find-no_place}
 use Rattle.csi_fence.specs.Model.Fence.{begins}
 use Rattle.csi_fence.specs.Public.Rows.{staying}
 use Rattle.csi_fence.proofs.AnsweredRows.{staying-full}

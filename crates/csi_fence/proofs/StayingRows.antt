@@ -1,7 +1,7 @@
 -- Rows that stay where a session begins, and how many are empty.
 use Rattle.std.proofs.Common.{◌≡◌, ℕ, zero, suc, ◌+◌, ◌≤◌, List, [], ◌∷◌, Bool, true, false, cond, not, ◌||◌, refl, sym, ◌∙◌, ap, arith}
 use Rattle.std.specs.Prelude.{Some, None, filter, count_by, ◌==◌, slice_get, slice_set}
-use Rattle.csi_lists.proofs.Counts.{count-cons}
+use Rattle.csi_types.proofs.Counts.{count-cons}
 use Rattle.csi_fence.specs.Public.Rows.{Plan, stays_in}
 
 -- ---- counts

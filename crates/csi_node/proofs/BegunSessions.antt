@@ -2,7 +2,7 @@
 use Rattle.std.proofs.Common.{◌≡◌, ◌⊎◌, ℕ, List, Bool, true, false, refl, sym, ◌∙◌, ap, inl, inr}
 use Rattle.std.specs.Prelude.{Option, Some, None, option_map, is_some, ◌==◌}
 use Rattle.std.proofs.lemmas.Bool.{eqb-true, true≢false, false_from_ne_true}
-use Rattle.csi_lists.proofs.Searches.{find-filter, find-filtered}
+use Rattle.csi_types.proofs.Searches.{find-filter, find-filtered}
 use Rattle.csi_types.specs.Public.PluginThing.{PluginThing, Exists, Attached, Staged, Published}
 use Rattle.csi_node.specs.Model.State.{NodeState, AnsweredVolume, row_with_id, staged_of}
 use Rattle.csi_node.specs.Model.Fenced.{begun}

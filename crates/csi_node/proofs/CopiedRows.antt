@@ -10,7 +10,7 @@ use Rattle.csi_node.specs.Model.OneRow.{node_row_shown, NodeRowShown}
 use Rattle.csi_node.specs.Model.Record.{NodeParts, parts, Shows}
 use Rattle.csi_node.proofs.ShownAfter.{ShowsAll, answered_of, row_of, row_of-shown, kept-shown, kept-found, all-from_shows, shows-from_all}
 use Rattle.std.proofs.lemmas.List.{length-map}
-use Rattle.csi_lists.proofs.Members.{among-find, one-of_all}
+use Rattle.csi_types.proofs.Members.{among-find, one-of_all}
 use Rattle.csi_fence.proofs.RowsThere.{found-there, shown-at}
 use Rattle.csi_node.specs.Public.OneRow.{IsSoundRow}
 

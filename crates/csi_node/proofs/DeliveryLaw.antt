@@ -2,8 +2,8 @@
 use Rattle.std.proofs.Common.{◌≡◌, ◌⊎◌, ◌≤◌, ℕ, List, true, false, refl, sym, ◌∙◌, ap, subst, inl, inr}
 use Rattle.std.specs.Prelude.{Option, Some, None, option_map, find, ◌==◌, IsTrue, codes}
 use Rattle.std.proofs.lemmas.Option.{none-some}
-use Rattle.csi_lists.proofs.Members.{among-find}
-use Rattle.csi_lists.proofs.Options.{some-from_map}
+use Rattle.csi_types.proofs.Members.{among-find}
+use Rattle.csi_types.proofs.Options.{some-from_map}
 use Rattle.csi_types.specs.declared.number.Number.{Number}
 use Rattle.csi_types.specs.declared.call.Call.{Call}
 use Rattle.csi_types.specs.declared.call.Kind.{Kind}

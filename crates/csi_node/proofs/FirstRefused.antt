@@ -6,10 +6,10 @@ use Rattle.std.proofs.lemmas.Bool.{and_from, and_parts, eq-eqb, eqb-true, falseâ
 use Rattle.std.proofs.lemmas.Bool.Decides.{Decides-and}
 use Rattle.std.proofs.lemmas.List.{map_push, take-map, take_all}
 use Rattle.std.proofs.lemmas.List.Elements.{All-from_recursion}
-use Rattle.csi_lists.specs.Model.Members.{IsAmong}
-use Rattle.csi_lists.proofs.Each.{each-weaker}
-use Rattle.csi_lists.proofs.Members.{all_of, one-of_all}
-use Rattle.csi_lists.proofs.Options.{some_is_not_none}
+use Rattle.csi_types.specs.Model.Members.{IsAmong}
+use Rattle.csi_types.proofs.Each.{each-weaker}
+use Rattle.csi_types.proofs.Members.{all_of, one-of_all}
+use Rattle.csi_types.proofs.Options.{some_is_not_none}
 use Rattle.csi_fence.proofs.JudgedRows as judging
 use Rattle.csi_fence.proofs.JudgedRows.{AreJudged, follows, judged-take, one-more}
 use Rattle.csi_fence.proofs.RisingRows.{rise-rows}

@@ -3,10 +3,10 @@ use Rattle.std.proofs.Common.{◌≡◌, ℕ, List, [], ◌∷◌, map, Bool, co
 use Rattle.std.specs.Prelude.{Option, Some, None, filter, ◌==◌, is_some}
 use Rattle.std.proofs.lemmas.Bool.{eq-eqb, ne_eqb}
 use Rattle.csi_types.specs.declared.capability.Capability.{Capability}
-use Rattle.csi_lists.specs.Model.Members.{IsAmong, EachTwo}
-use Rattle.csi_lists.proofs.Members.{each_of}
+use Rattle.csi_types.specs.Model.Members.{IsAmong, EachTwo}
+use Rattle.csi_types.proofs.Members.{each_of}
 use Rattle.csi_fence.proofs.RisingRows.{once-rise}
-use Rattle.csi_lists.proofs.PassingByKey.{find-passing, length-by_key, passing, passing-by_key}
+use Rattle.csi_types.proofs.PassingByKey.{find-passing, length-by_key, passing, passing-by_key}
 use Rattle.csi_node.specs.Model.State.{NodeState, AnsweredVolume, StagedVolume, staged_of}
 use Rattle.csi_node.specs.Public.View.{empty_node}
 use Rattle.csi_node.specs.Model.Fenced.{begun}

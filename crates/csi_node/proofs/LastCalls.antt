@@ -2,12 +2,12 @@
 use Rattle.std.proofs.Common.{◌≡◌, ◌⊎◌, ℕ, List, [], ◌∷◌, Bool, true, false, cond, not, refl, sym, ◌∙◌, ap, subst, inl, inr}
 use Rattle.std.specs.Prelude.{Option, Some, None, option_map, find, filter, ◌==◌}
 use Rattle.std.proofs.lemmas.Bool.{eq-eqb, eqb-true, not-true}
-use Rattle.csi_lists.specs.Model.Members.{IsAmong}
-use Rattle.csi_lists.proofs.Members.{among-either, among-map, none_passes}
-use Rattle.csi_lists.proofs.Searches.{find-filter, find-append_one, find-map, find-passes}
-use Rattle.csi_lists.proofs.Filters.{filter-append_one, filter-filter, filter-map}
+use Rattle.csi_types.specs.Model.Members.{IsAmong}
+use Rattle.csi_types.proofs.Members.{among-either, among-map, none_passes}
+use Rattle.csi_types.proofs.Searches.{find-filter, find-append_one, find-map, find-passes}
+use Rattle.csi_types.proofs.Filters.{filter-append_one, filter-filter, filter-map}
 use Rattle.std.proofs.lemmas.List.{map-append}
-use Rattle.csi_lists.proofs.Maps.{map-map}
+use Rattle.csi_types.proofs.Maps.{map-map}
 use Rattle.csi_fence.specs.Model.Fence.{Kept}
 use Rattle.csi_node.specs.Model.State.{NodeState, AnsweredVolume, row_with_id}
 use Rattle.csi_node.specs.Model.Table.{Change, Stays, Stages, Unstages, Publishes, Unpublishes, changed}

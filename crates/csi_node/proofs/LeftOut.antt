@@ -3,8 +3,8 @@ use Rattle.std.proofs.Common.{◌≡◌, ◌≤◌, ℕ, List, [], ◌∷◌, ma
 use Rattle.std.specs.Prelude.{All, count_by, filter, is_some, ◌==◌}
 use Rattle.std.specs.List.{AllByRecursion}
 use Rattle.std.proofs.lemmas.List.Elements.{All-from_recursion, filter_agree}
-use Rattle.csi_lists.proofs.Each.{each-map, each-weaker}
-use Rattle.csi_lists.proofs.Filters.{filter-of_map}
+use Rattle.csi_types.proofs.Each.{each-map, each-weaker}
+use Rattle.csi_types.proofs.Filters.{filter-of_map}
 use Rattle.csi_fence.specs.Public.Rows as behind
 use Rattle.csi_fence.proofs.KeptRows.{IsUpTo, kept-filter}
 use Rattle.csi_node.specs.declared.row.NodeRow.{NodeRow}

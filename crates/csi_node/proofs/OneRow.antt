@@ -5,8 +5,8 @@ use Rattle.std.proofs.lemmas.Bool.{eq-eqb}
 use Rattle.csi_types.specs.declared.capability.Capability.{Capability}
 use Rattle.csi_types.specs.declared.status.Status.TheVariants.{FailedPrecondition}
 use Rattle.csi_types.specs.Model.Same.{same_text, same_capability}
-use Rattle.csi_lists.proofs.Searches.{find-of_map, find-same}
-use Rattle.csi_lists.proofs.Filters.{filter-of_map, filter-all}
+use Rattle.csi_types.proofs.Searches.{find-of_map, find-same}
+use Rattle.csi_types.proofs.Filters.{filter-of_map, filter-all}
 use Rattle.csi_node.specs.declared.row.NodeTarget.{NodeTarget}
 use Rattle.csi_node.specs.Model.State.{StagedVolume, PublishedVolume, is_published_at, published_at, published_of, staged_of}
 use Rattle.csi_node.specs.Model.Table.{Outcome, refused, publish, publish_at_target, publish_staged, publish_new, unpublish, begins_with_slash}

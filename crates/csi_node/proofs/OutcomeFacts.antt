@@ -14,9 +14,9 @@ use Rattle.csi_node.specs.Model.Table.{Outcome, Change, Stays, Stages, Unstages,
 use Rattle.csi_node.specs.Public.Laws.{is_another, IsDone}
 use Rattle.csi_node.proofs.OneRow.{itself}
 use Rattle.csi_node.proofs.TableOutcomes.{IsOutcome, at_itself, refuses, was_staged, stages, unstages, was_published, publishes, was_unpublished, unpublishes, lifecycle_outcomes, stage_call, publish_call}
-use Rattle.csi_lists.proofs.Searches.{find-append_one, find-filter_not}
-use Rattle.csi_lists.proofs.Filters.{filter-append_one, filter-filter, filter-not_none}
-use Rattle.csi_lists.proofs.Options.{none-from_map}
+use Rattle.csi_types.proofs.Searches.{find-append_one, find-filter_not}
+use Rattle.csi_types.proofs.Filters.{filter-append_one, filter-filter, filter-not_none}
+use Rattle.csi_types.proofs.Options.{none-from_map}
 
 -- the table would answer this call OK, and change nothing
 pub IsReady : NodeState → Call → Type 0

@@ -7,12 +7,12 @@ use Rattle.std.proofs.lemmas.List.{append-nil}
 use Rattle.std.proofs.lemmas.List.Elements.{filter-append}
 use Rattle.std.proofs.lemmas.List.Folds.{flat_map-map}
 use Rattle.csi_types.specs.declared.capability.Capability.{Capability}
-use Rattle.csi_lists.specs.Model.Members.{EachTwo}
-use Rattle.csi_lists.proofs.Each.{each-append, each-weaker}
-use Rattle.csi_lists.proofs.Members.{all_of, among-map, each_of}
-use Rattle.csi_lists.proofs.Maps.{map-same, map-twice}
-use Rattle.csi_lists.proofs.Pairs.{two-joined}
-use Rattle.csi_lists.proofs.Filters.{filter-each, filter-no_one, each-passes}
+use Rattle.csi_types.specs.Model.Members.{EachTwo}
+use Rattle.csi_types.proofs.Each.{each-append, each-weaker}
+use Rattle.csi_types.proofs.Members.{all_of, among-map, each_of}
+use Rattle.csi_types.proofs.Maps.{map-same, map-twice}
+use Rattle.csi_types.proofs.Pairs.{two-joined}
+use Rattle.csi_types.proofs.Filters.{filter-each, filter-no_one, each-passes}
 use Rattle.csi_node.specs.declared.row.NodeRow.{NodeRow}
 use Rattle.csi_node.specs.declared.row.NodeTarget.{NodeTarget}
 use Rattle.csi_node.specs.Model.State.{NodeState, StagedVolume, PublishedVolume}

@@ -1,7 +1,7 @@
 -- The rules of a record are those of rows behind the fence.
 use Rattle.std.proofs.Common.{◌≡◌, ℕ, zero, suc, ◌<◌, List, [], ◌∷◌, length, get_or, true, not, refl, sym, ◌∙◌, ap, arith, ◌⊎◌, ◌≤◌, ◌+◌, inl, inr}
 use Rattle.std.specs.Prelude.{Option, Some, None, count_by, slice_get, is_some, ◌==◌}
-use Rattle.csi_lists.specs.Model.Members.{EachTwo}
+use Rattle.csi_types.specs.Model.Members.{EachTwo}
 use Rattle.csi_types.specs.declared.capability.Capability.{Capability}
 use Rattle.csi_fence.specs.Public.Rows as rows
 use Rattle.csi_fence.specs.Public.Rows.{AreRising, id_of}
@@ -13,9 +13,9 @@ use Rattle.csi_node.specs.Public.Record.{row_id_at, AreSoundRows, IsCurrent, IsC
 use Rattle.csi_node.specs.Public.Plan.{node_plan, AreNodeRows}
 use Rattle.std.proofs.lemmas.Bool.{eq-eqb}
 use Rattle.std.proofs.lemmas.List.{length-map}
-use Rattle.csi_lists.proofs.Counts.{count-either}
-use Rattle.csi_lists.proofs.Members.{one-of_all}
-use Rattle.csi_lists.proofs.Options.{none-from_is_some}
+use Rattle.csi_types.proofs.Counts.{count-either}
+use Rattle.csi_types.proofs.Members.{one-of_all}
+use Rattle.csi_types.proofs.Options.{none-from_is_some}
 use Rattle.csi_node.proofs.ChangedRows.{staged-tells}
 
 -- the ids rise

@@ -9,12 +9,12 @@ use Rattle.csi_types.specs.declared.call.Call.{Call}
 use Rattle.csi_types.specs.declared.call.Call.TheVariants as calls
 use Rattle.csi_types.specs.Model.Same.{same_text}
 use Rattle.csi_types.specs.Model.Sharing.{allows_one_target}
-use Rattle.csi_lists.proofs.Searches.{find-append, find-missed, find-none_in_filter}
+use Rattle.csi_types.proofs.Searches.{find-append, find-missed, find-none_in_filter}
 use Rattle.csi_types.proofs.Equality.{same_text-tells}
 use Rattle.std.proofs.lemmas.Option.{same_Some}
 use Rattle.std.proofs.lemmas.List.Elements.{filter_agree}
-use Rattle.csi_lists.proofs.Options.{option_or-none, some_is_not_none}
-use Rattle.csi_lists.proofs.Filters.{filter-no_longer, filter-of_map}
+use Rattle.csi_types.proofs.Options.{option_or-none, some_is_not_none}
+use Rattle.csi_types.proofs.Filters.{filter-no_longer, filter-of_map}
 use Rattle.csi_node.specs.declared.row.NodeTarget.{NodeTarget}
 use Rattle.csi_node.specs.Model.State.{NodeState, StagedVolume, PublishedVolume, is_published_at, volume_of}
 use Rattle.csi_node.specs.Model.Table.{changed, begins_with_slash}

@@ -2,7 +2,7 @@
 use Rattle.std.proofs.Common.{◌≡◌, ℕ, List, length, Bool, true, false, cond, refl, sym, ◌∙◌, ap, subst}
 use Rattle.std.specs.Prelude.{All, Option, Some, None, option_map, find, filter, nat_le, not, codes}
 use Rattle.std.proofs.lemmas.List.Elements.{All-filter}
-use Rattle.csi_lists.proofs.Searches.{find-none}
+use Rattle.csi_types.proofs.Searches.{find-none}
 use Rattle.csi_types.specs.declared.call.Call.{Call}
 use Rattle.csi_types.specs.declared.call.Party.TheVariants.{Node}
 use Rattle.csi_types.specs.declared.number.Number.{Number}

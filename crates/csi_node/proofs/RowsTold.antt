@@ -6,8 +6,8 @@ use Rattle.std.proofs.lemmas.Bool.Decides.{nat_tests}
 use Rattle.std.proofs.lemmas.List.{length-map}
 use Rattle.std.proofs.lemmas.Option.{same_Some}
 use Rattle.std.proofs.lemmas.Bool.{eqb-true, false≢true, lt-leb, true≢false}
-use Rattle.csi_lists.proofs.Options.{none-from_map}
-use Rattle.csi_lists.proofs.Places.{position-none}
+use Rattle.csi_types.proofs.Options.{none-from_map}
+use Rattle.csi_types.proofs.Places.{position-none}
 use Rattle.csi_types.specs.declared.capability.Capability.{Capability}
 use Rattle.csi_types.specs.declared.call.Call.{Call}
 use Rattle.csi_types.specs.declared.call.Kind.{Kind}

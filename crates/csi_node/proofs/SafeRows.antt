@@ -3,10 +3,10 @@ use Rattle.std.proofs.Common.{◌≡◌, ℕ, ◌≤◌, List, [], ◌∷◌, ma
 use Rattle.std.specs.Prelude.{Option, Some, None, ◌==◌, All}
 use Rattle.std.proofs.lemmas.Bool.{eq-eqb}
 use Rattle.csi_types.specs.declared.capability.Capability.{Capability}
-use Rattle.csi_lists.specs.Model.Members.{IsAmong, EachTwo}
+use Rattle.csi_types.specs.Model.Members.{IsAmong, EachTwo}
 use Rattle.csi_types.specs.Model.Sharing.{allows_one_target}
-use Rattle.csi_lists.proofs.Members.{all_of, among-map, in_filter}
-use Rattle.csi_lists.proofs.Pairs.{two-by_key, two-more}
+use Rattle.csi_types.proofs.Members.{all_of, among-map, in_filter}
+use Rattle.csi_types.proofs.Pairs.{two-by_key, two-more}
 use Rattle.csi_node.specs.declared.row.NodeRow.{NodeRow}
 use Rattle.csi_node.specs.declared.row.NodeTarget.{NodeTarget}
 use Rattle.csi_node.specs.Model.State.{NodeState, PublishedVolume, staged_of, published_of}

@@ -11,13 +11,13 @@ use Rattle.csi_node.specs.Model.State.{NodeState, StagedVolume, PublishedVolume,
 use Rattle.csi_node.specs.Model.Table.{Outcome, Change, Stages, Unstages, Publishes, Unpublishes, lifecycle_row, changed}
 use Rattle.csi_node.specs.Model.Fenced.{node_at}
 use Rattle.csi_node.specs.Public.Fenced.{after_frames}
-use Rattle.csi_lists.specs.Model.Members.{IsAmong}
+use Rattle.csi_types.specs.Model.Members.{IsAmong}
 use Rattle.csi_node.specs.Public.Safe.{AllowTwo, IsPublishedRight}
 use Rattle.csi_node.proofs.TableOutcomes.{Fits, IsOutcome, refuses, was_staged, stages, unstages, was_published, publishes, was_unpublished, unpublishes, lifecycle_outcomes}
 use Rattle.csi_node.proofs.CarriedOut.{keeps-apart}
 use Rattle.csi_node.proofs.StagedOnce.{left-staged, still-staged}
-use Rattle.csi_lists.proofs.Members.{among-either, among-filter, none_kept}
-use Rattle.csi_lists.proofs.Pairs.{two-append, two-filter}
+use Rattle.csi_types.proofs.Members.{among-either, among-filter, none_kept}
+use Rattle.csi_types.proofs.Pairs.{two-append, two-filter}
 use Rattle.std.proofs.lemmas.Option.{same_Some}
 
 -- a change keeps that

@@ -3,9 +3,9 @@
 use Rattle.std.proofs.Common.{◌≡◌, ◌⊎◌, ◌≤◌, ℕ, List, true, sym, ◌∙◌, ap, subst, inl, inr, arith}
 use Rattle.std.specs.Prelude.{option_map, find, is_some, IsSome, ◌==◌}
 use Rattle.std.proofs.lemmas.Bool.{eq-eqb, ltb-true}
-use Rattle.csi_lists.specs.Model.Members.{IsAmong}
-use Rattle.csi_lists.proofs.Counts.{count-either}
-use Rattle.csi_lists.proofs.Members.{among-kept}
+use Rattle.csi_types.specs.Model.Members.{IsAmong}
+use Rattle.csi_types.proofs.Counts.{count-either}
+use Rattle.csi_types.proofs.Members.{among-kept}
 use Rattle.csi_types.specs.declared.number.Number.{Number}
 use Rattle.csi_types.specs.declared.call.Call.{Call}
 use Rattle.csi_types.specs.Model.Frame.{Frame}

@@ -3,8 +3,8 @@ use Rattle.std.proofs.Common.{◌≡◌, List, map, refl, sym, ◌∙◌, ap}
 use Rattle.std.specs.Prelude.{Option, Some, None, option_map, option_to_list, ◌==◌}
 use Rattle.std.specs.List.{flat_map}
 use Rattle.std.proofs.lemmas.List.{length-map}
-use Rattle.csi_lists.proofs.Filters.{filter-of_map}
-use Rattle.csi_lists.proofs.PassingByKey.{filter-found, once-rising}
+use Rattle.csi_types.proofs.Filters.{filter-of_map}
+use Rattle.csi_types.proofs.PassingByKey.{filter-found, once-rising}
 use Rattle.csi_node.specs.Model.State.{NodeState, AnsweredVolume, StagedVolume, PublishedVolume}
 use Rattle.csi_node.specs.Model.OneRow.{NodeRowShown}
 use Rattle.csi_node.specs.Public.OneRow.{state_shown}

@@ -8,9 +8,9 @@ use Rattle.csi_types.specs.declared.call.Call.{Call}
 use Rattle.csi_fence.specs.Model.Fence.{Kept}
 use Rattle.std.proofs.lemmas.List.Elements.{filter_agree}
 use Rattle.csi_fence.proofs.PutRows.{grown}
-use Rattle.csi_lists.proofs.PassingByKey.{find-by_key}
-use Rattle.csi_lists.proofs.Searches.{find-of_map, find-passes}
-use Rattle.csi_lists.proofs.Filters.{filter-append_passes, filter-of_map}
+use Rattle.csi_types.proofs.PassingByKey.{find-by_key}
+use Rattle.csi_types.proofs.Searches.{find-of_map, find-passes}
+use Rattle.csi_types.proofs.Filters.{filter-append_passes, filter-of_map}
 use Rattle.csi_node.specs.declared.row.NodeRow.{NodeRow}
 use Rattle.csi_node.specs.Model.State.{NodeState, AnsweredVolume, StagedVolume, PublishedVolume, row_with_id, published_of, volume_of, row_of_volume, row_for}
 use Rattle.csi_node.specs.Public.View.{empty_node}

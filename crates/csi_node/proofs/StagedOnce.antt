@@ -2,14 +2,14 @@
 use Rattle.std.proofs.Common.{◌≡◌, ◌⊎◌, ℕ, List, cond, false, not, refl, sym, ◌∙◌, ap, subst, inl, inr}
 use Rattle.std.specs.Prelude.{Some, None, option_map, find, ◌==◌}
 use Rattle.std.proofs.lemmas.Bool.{not-true, eqb-true, eq-eqb}
-use Rattle.csi_lists.proofs.Members.{among-kept, among-either}
-use Rattle.csi_lists.proofs.Searches.{find-append_one, find-filter, find-append}
+use Rattle.csi_types.proofs.Members.{among-kept, among-either}
+use Rattle.csi_types.proofs.Searches.{find-append_one, find-filter, find-append}
 use Rattle.csi_types.specs.declared.capability.Capability.{Capability}
 use Rattle.csi_types.specs.declared.call.Call.{Call}
 use Rattle.csi_types.specs.Model.Frame.{Frame}
 use Rattle.csi_fence.proofs.FramesKeep.{IsKept, frames_keep}
-use Rattle.csi_lists.specs.Model.Members.{IsAmong}
-use Rattle.csi_lists.proofs.Options.{option_or-read, none-from_map}
+use Rattle.csi_types.specs.Model.Members.{IsAmong}
+use Rattle.csi_types.proofs.Options.{option_or-read, none-from_map}
 use Rattle.csi_node.specs.Model.State.{NodeState, StagedVolume, joined_node, staged_of}
 use Rattle.csi_node.specs.Model.Table.{Outcome, Stages, Unstages, lifecycle_row, changed}
 use Rattle.csi_node.specs.Model.Fenced.{node_at}

@@ -8,9 +8,9 @@ use Rattle.csi_types.specs.declared.call.Call.{Call}
 use Rattle.csi_types.specs.declared.call.Call.TheVariants as calls
 use Rattle.csi_types.specs.declared.status.Status.TheVariants.{InvalidArgument, FailedPrecondition}
 use Rattle.csi_types.specs.Model.Same.{same_text, same_capability}
-use Rattle.csi_lists.proofs.Filters.{filter-filter, filter-swap, filter-none, filter-append_passes}
+use Rattle.csi_types.proofs.Filters.{filter-filter, filter-swap, filter-none, filter-append_passes}
 use Rattle.std.proofs.lemmas.Option.{same_Some}
-use Rattle.csi_lists.proofs.Searches.{find-first, find-filter, first_of_list}
+use Rattle.csi_types.proofs.Searches.{find-first, find-filter, first_of_list}
 use Rattle.csi_node.specs.Model.State.{NodeState, StagedVolume, PublishedVolume, staged_of, published_of, published_at, is_published_at, volume_of}
 use Rattle.csi_node.specs.Model.Table.{Change, Stays, Stages, Unstages, Publishes, Unpublishes, Outcome, refused, stage, unstage, publish, publish_at_target, publish_staged, publish_new, unpublish, lifecycle_row, changed, begins_with_slash}
 use Rattle.csi_node.proofs.TableOutcomes.{IsOutcome, refuses, was_staged, stages, unstages, was_published, publishes, was_unpublished, unpublishes, lifecycle_outcomes}

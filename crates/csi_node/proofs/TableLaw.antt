@@ -1,7 +1,7 @@
 -- The laws of the node's table, from what is so of each of its outcomes.
 use Rattle.std.proofs.Common.{◌≡◌, ℕ, List, Bool, true, false, refl, sym, ◌∙◌, ap, subst, inl}
 use Rattle.std.specs.Prelude.{Option, Some, None, option_map, is_none, filter, codes}
-use Rattle.csi_lists.proofs.Options.{some-from_map}
+use Rattle.csi_types.proofs.Options.{some-from_map}
 use Rattle.csi_types.specs.declared.number.Number.{Number}
 use Rattle.csi_types.specs.declared.call.Call.{Call}
 use Rattle.csi_types.specs.declared.call.Party.TheVariants.{Node}

@@ -2,15 +2,15 @@
 use Rattle.std.proofs.Common.{◌≡◌, ◌≢◌, ℕ, List, Bool, true, false, cond, not, refl, sym, ◌∙◌, ap}
 use Rattle.std.specs.Prelude.{Option, Some, None, option_map, find, ◌==◌}
 use Rattle.std.proofs.lemmas.Bool.{and_parts, eqb-true, eq-eqb, false_from_ne_true, true≢false}
-use Rattle.csi_lists.proofs.Searches.{find-filter, find-append_one, find-filter_not, find-append_other}
+use Rattle.csi_types.proofs.Searches.{find-filter, find-append_one, find-filter_not, find-append_other}
 use Rattle.csi_types.proofs.Equality.{same_text-tells, same_plugin_thing-tells}
 use Rattle.csi_types.specs.declared.call.Call.{Call}
 use Rattle.csi_types.specs.declared.call.Call.TheVariants as calls
 use Rattle.csi_types.specs.declared.status.Status.TheVariants.{Ok}
 use Rattle.csi_types.specs.Public.PluginThing.{PluginThing, Exists, Attached, Staged, Published, ThingForm, StagedAs, PublishedAs, same_plugin_thing, asked}
 use Rattle.csi_types.specs.Model.Same.{same_text}
-use Rattle.csi_lists.proofs.Options.{none-from_map}
-use Rattle.csi_lists.proofs.Tests.{not-where}
+use Rattle.csi_types.proofs.Options.{none-from_map}
+use Rattle.csi_types.proofs.Tests.{not-where}
 use Rattle.csi_node.specs.Model.State.{NodeState, StagedVolume, PublishedVolume, is_published_at}
 use Rattle.csi_node.specs.Model.Table.{Outcome, Change, Stays, Stages, Unstages, Publishes, Unpublishes, refused, met, done, changed}
 use Rattle.csi_node.specs.Public.View.{held_on, thing_of}

@@ -1,9 +1,9 @@
 -- Answers, line after line; and how many lines there may be.
 use Rattle.std.proofs.Common.{inl, inr, ap, ℕ, ◌≤◌, List, [], ◌∷◌, length, arith, length-append}
 use Rattle.std.specs.List.{flat_map}
-use Rattle.csi_driver.specs.Public.LinesOf.{LinesOf, with_newline, and_last}
-use Rattle.csi_driver.proofs.LineStreams.{lines_few}
-pub use Rattle.csi_driver.proofs.GrowingAnswers.{answers-append}
+use Rattle.csi_streams.specs.Public.LinesOf.{LinesOf, with_newline, and_last}
+use Rattle.csi_streams.proofs.LineStreams.{lines_few}
+pub use Rattle.csi_streams.proofs.GrowingAnswers.{answers-append}
 use Rattle.csi_orchestration.specs.Public.LinesServing.{AreThere}
 
 -- there are no more lines than bytes, the last one too

@@ -5,11 +5,11 @@ use Rattle.std.specs.List.{position_or_len}
 use Rattle.std.proofs.lemmas.Bool.{false≢true}
 use Rattle.std.proofs.lemmas.Bool.Decides.{nat_tests}
 use Rattle.std.proofs.lemmas.Option.{slice_get_cases, cond_some, none-some, same_Some}
-use Rattle.csi_lists.specs.Model.Members.{IsAmong, EachTwo}
-use Rattle.csi_lists.specs.Public.Places.{IsAt}
-use Rattle.csi_lists.proofs.Members.{among-find, some-found}
-use Rattle.csi_lists.proofs.Places.{FirstAt-find, FirstAt-position}
-use Rattle.csi_lists.proofs.Searches.{find-passes, find-no_place}
+use Rattle.csi_types.specs.Model.Members.{IsAmong, EachTwo}
+use Rattle.csi_types.specs.Public.Places.{IsAt}
+use Rattle.csi_types.proofs.Members.{among-find, some-found}
+use Rattle.csi_types.proofs.Places.{FirstAt-find, FirstAt-position}
+use Rattle.csi_types.proofs.Searches.{find-passes, find-no_place}
 use Rattle.csi_types.specs.declared.call.Call.{Call}
 use Rattle.csi_types.specs.declared.call.Call.TheVariants as calls
 use Rattle.csi_types.specs.declared.call.Kind.{Kind}

@@ -1,7 +1,7 @@
 -- Two runs over one store are one run.
 use Rattle.std.proofs.Common.{◌≡◌, sym, refl, subst, inl, inr, ℕ, ◌+◌, ◌≤◌, List, [], ◌++◌, length, take, Result, Ok, Err, arith, length-append}
 use Rattle.std.proofs.lemmas.List.{append-nil, length-take}
-use Rattle.csi_driver.proofs.Items.{front-taken}
+use Rattle.csi_streams.proofs.Items.{front-taken}
 use Rattle.csi_stores.specs.declared.counted.Counted.{Counted}
 use Rattle.csi_stores.specs.Public.Part.{StoredPart}
 use Rattle.csi_stores.specs.Public.Stores.{Store, Found, Parts, Has, IsOnly}

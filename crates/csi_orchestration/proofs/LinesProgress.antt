@@ -3,12 +3,12 @@ use Rattle.std.proofs.Common.{◌≡◌, sym, subst, ℕ, List, true, false}
 use Rattle.std.specs.Prelude.{Option}
 use Rattle.std.specs.List.{AllByRecursion}
 use Rattle.std.proofs.lemmas.Bool.{true≢false}
-use Rattle.csi_driver.specs.declared.waiting.AnswerFault.{AnswerFault}
-use Rattle.csi_driver.specs.Public.LinesOf.{with_newline, IsShort}
-use Rattle.csi_driver.specs.Public.Lining.{RunsLines, no_line, line_handled, lines_flushed}
-use Rattle.csi_driver.specs.Public.Waiting.{Settling}
-use Rattle.csi_driver.proofs.Groups.{IsFresh, Came, came-begun, came-settles, came-answered, Finished}
-use Rattle.csi_driver.proofs.Items.{each-push}
+use Rattle.csi_streams.specs.declared.waiting.AnswerFault.{AnswerFault}
+use Rattle.csi_streams.specs.Public.LinesOf.{with_newline, IsShort}
+use Rattle.csi_streams.specs.Public.Lining.{RunsLines, no_line, line_handled, lines_flushed}
+use Rattle.csi_streams.specs.Public.Waiting.{Settling}
+use Rattle.csi_streams.proofs.Groups.{IsFresh, Came, came-begun, came-settles, came-answered, Finished}
+use Rattle.csi_streams.proofs.Items.{each-push}
 use Rattle.csi_stores.specs.Public.Part.{StoredPart}
 use Rattle.csi_stores.specs.Public.Stores.{Store}
 use Rattle.csi_orchestration.specs.Private.LinesHandling.{Serving, waiting_of, always, IsHandled, Flushes, StopsLine}

@@ -5,22 +5,22 @@ use Rattle.std.specs.Prelude.{slice_get, Option, Some, Result, Ok, Err}
 use Rattle.std.specs.List.{AllByRecursion}
 use Rattle.std.specs.Io.KnownBytes.{IsAtEnd}
 use Rattle.csi_stores.specs.Public.Counting.{HasRisen}
-use Rattle.csi_driver.specs.declared.driver.DriveStop.{DriveStop}
-use Rattle.csi_driver.specs.declared.driver.DriveStop.TheVariants as stop
-use Rattle.csi_driver.specs.declared.lines.LinesFault.{LinesFault}
-use Rattle.csi_driver.specs.declared.lines.LinesFault.TheVariants as lines_faults
-use Rattle.csi_driver.specs.Public.Driving.{TellsReader}
-use Rattle.csi_driver.specs.Public.Handled.{IsBehind}
-use Rattle.csi_driver.specs.Public.Lines.{HaltsAtLine, IsLongAt, ReadsLines, RestsAtLines}
-use Rattle.csi_driver.specs.Public.LinesOf.{with_newline, and_last, IsShort}
-use Rattle.csi_driver.specs.Public.Lining.{RunsLines}
-use Rattle.csi_driver.specs.declared.waiting.AnswerFault.{AnswerFault}
-use Rattle.csi_driver.specs.declared.waiting.AnswerFault.TheVariants as why
-use Rattle.csi_driver.specs.Public.Waiting.{Settling, EndsWaiting}
-use Rattle.csi_driver.proofs.StoreCalls.{follows-more}
-use Rattle.csi_driver.proofs.GrowingAnswers.{answers-some}
-use Rattle.csi_driver.proofs.Items.{in-two, something, front-taken}
-use Rattle.csi_driver.proofs.Groups.{IsFresh, came-settles, came-stops, finished, refused-left, refused-cause, refused-written, unwritten-kept, unwritten-runs, unwritten-written}
+use Rattle.csi_streams.specs.declared.driver.DriveStop.{DriveStop}
+use Rattle.csi_streams.specs.declared.driver.DriveStop.TheVariants as stop
+use Rattle.csi_streams.specs.declared.lines.LinesFault.{LinesFault}
+use Rattle.csi_streams.specs.declared.lines.LinesFault.TheVariants as lines_faults
+use Rattle.csi_streams.specs.Public.Driving.{TellsReader}
+use Rattle.csi_streams.specs.Public.Handled.{IsBehind}
+use Rattle.csi_streams.specs.Public.Lines.{HaltsAtLine, IsLongAt, ReadsLines, RestsAtLines}
+use Rattle.csi_streams.specs.Public.LinesOf.{with_newline, and_last, IsShort}
+use Rattle.csi_streams.specs.Public.Lining.{RunsLines}
+use Rattle.csi_streams.specs.declared.waiting.AnswerFault.{AnswerFault}
+use Rattle.csi_streams.specs.declared.waiting.AnswerFault.TheVariants as why
+use Rattle.csi_streams.specs.Public.Waiting.{Settling, EndsWaiting}
+use Rattle.csi_streams.proofs.StoreCalls.{follows-more}
+use Rattle.csi_streams.proofs.GrowingAnswers.{answers-some}
+use Rattle.csi_streams.proofs.Items.{in-two, something, front-taken}
+use Rattle.csi_streams.proofs.Groups.{IsFresh, came-settles, came-stops, finished, refused-left, refused-cause, refused-written, unwritten-kept, unwritten-runs, unwritten-written}
 use Rattle.csi_stores.specs.Public.Part.{StoredPart}
 use Rattle.csi_stores.specs.Public.Stores.{Store, FollowsStore}
 use Rattle.csi_stores.specs.declared.counted.Counted.{Counted}

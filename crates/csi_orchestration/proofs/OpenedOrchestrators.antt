@@ -7,7 +7,7 @@ use Rattle.csi_records.specs.Public.Spelling.{present}
 use Rattle.csi_service.specs.Public.OrchestratorOpening.{HasOrchestrator, IsOrchestratorOpened, orchestrator_rules}
 use Rattle.csi_service.specs.Public.OrchestratorServices.{ServedOrchestrator, kept_of, orchestrator_service_parts, AreFitOrchestratorRows}
 use Rattle.csi_service.specs.Public.StoreOpening.{LeavesOpening}
-use Rattle.csi_endings.specs.declared.ending.Ending.{Ending}
+use Rattle.csi_streams.specs.declared.ending.Ending.{Ending}
 use Rattle.csi_orchestration.specs.declared.orchestrator_responder.OrchestratorResponder.{OrchestratorResponder}
 use Rattle.csi_orchestration.specs.Public.LinesRuns.{RunSetting}
 use Rattle.csi_orchestration.specs.Public.Running.{IsOpened, OrchestratorRuns, orchestrator_setting}

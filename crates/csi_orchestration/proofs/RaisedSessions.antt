@@ -3,9 +3,9 @@ use Rattle.std.proofs.Common.{◌≡◌, ◌<◌, ◌+◌, ℕ, List, [], ◌∷
 use Rattle.std.specs.Prelude.{Option, Some, None, Result, Err, is_some, is_none, nat_lt, ◌||◌, ◌&&◌, option_map, option_and_then}
 use Rattle.std.specs.List.{list_any}
 use Rattle.std.proofs.lemmas.Bool.{ltb-true}
-use Rattle.csi_lists.proofs.Each.{each-weaker}
-use Rattle.csi_lists.proofs.Filters.{filter-of_map}
-use Rattle.csi_lists.proofs.Searches.{find-of_map}
+use Rattle.csi_types.proofs.Each.{each-weaker}
+use Rattle.csi_types.proofs.Filters.{filter-of_map}
+use Rattle.csi_types.proofs.Searches.{find-of_map}
 use Rattle.csi_types.specs.declared.number.Number.{Number}
 use Rattle.csi_types.specs.Model.Same.{same_text}
 use Rattle.csi_orchestrator.specs.declared.fault.OrchFault.{OrchFault}

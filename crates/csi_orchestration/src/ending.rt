@@ -4,9 +4,9 @@ ghost use Rattle.csi_orchestration.specs.Public.Ending.{ending_of_store as by_st
 ghost use Rattle.csi_orchestration.specs.Public.Ending.{ending_of_kind as by_kind, ending_of_serving as by_serving};
 
 use crate::lines_serving::{LinesServeFault, LinesServeFaultKind, ServedLines};
-use csi_endings::Ending;
 use csi_service::OrchestratorUnopened;
 use csi_stores::KeepFault;
+use csi_streams::Ending;
 
 // The ending where the store refuses so.
 fn ending_of_store(fault: KeepFault) -> Ending

@@ -12,8 +12,8 @@ mod fault;
 mod handling;
 
 use crate::responder::Responder;
-use csi_driver::{Lines, Source, Waiting};
 use csi_stores::{Counted, Keep};
+use csi_streams::{Lines, Source, Waiting};
 pub use fault::{LinesServeFault, LinesServeFaultKind, ServedLines};
 use handling::{ResponderHandler, stopped};
 use std::alloc::Global;

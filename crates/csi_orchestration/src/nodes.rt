@@ -3,8 +3,8 @@ ghost use Rattle.std.specs.Prelude.{◌≡◌, Ok, IfOk, IfErr};
 ghost use Rattle.csi_json.specs.Public.Configs.{text_config};
 ghost use Rattle.csi_orchestration.specs.Public.Nodes.{AreNodesOfConfig, HasNoNodes, node_ids};
 
-use csi_endings::Ending;
 use csi_json::{ScheduleFault, read_config};
+use csi_streams::Ending;
 use csi_types::{Config, NoMemory, NodeId, NodeSlots};
 use std::alloc::Global;
 

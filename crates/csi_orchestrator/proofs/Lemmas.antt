@@ -16,22 +16,22 @@ pub use Rattle.std.proofs.lemmas.List.Sums.{count_by_more_no, count_by_more_yes,
 pub use Rattle.std.proofs.lemmas.Option.{get_or_from_slice_get, none-some, same_Some, slice_get_cases, slice_get_past}
 pub use Rattle.std.proofs.lemmas.Option.{slice_get_read}
 pub use Rattle.std.proofs.lemmas.Result.{IfOk-weaker, on_err_weaker, on_ok_weaker}
-pub use Rattle.csi_lists.proofs.Counts.{any-counted, count-cons}
-pub use Rattle.csi_lists.proofs.Each.{each-append, each-append_one, each-at, each-filter, each-map, each-weaker}
-pub use Rattle.csi_lists.proofs.Filters.{each-passes, filter-each, filter-no_longer, filter-no_one, filter-of_map}
-pub use Rattle.csi_lists.proofs.Members.{all_of, among-append, among-back, among-empty, among-filter_map, among-find}
-pub use Rattle.csi_lists.proofs.Members.{among-flat, among-joined, among-kept, among-map, among-moved, among-right}
-pub use Rattle.csi_lists.proofs.Members.{each_of, empty-where, has-some, in-filter_map, in-flat, in-map, in_filter}
-pub use Rattle.csi_lists.proofs.Members.{none_passes, some-found, some-has}
-pub use Rattle.csi_lists.proofs.Options.{is_some-map, none-from_is_some, option_or-none, option_or-some}
-pub use Rattle.csi_lists.proofs.Options.{some_is_not_none}
-pub use Rattle.csi_lists.proofs.Pairs.{two-append, two-by_places, two-filter, two-flat, two-joined, two-map, two-more}
-pub use Rattle.csi_lists.proofs.Places.{FirstAt-is_at, FirstAt-within, at-index, find-not_none, map_over_more-shown}
-pub use Rattle.csi_lists.proofs.Places.{position-first, position-none, same-at}
-pub use Rattle.csi_lists.proofs.Searches.{find-append, find-append_one, find-filter, find-map, find-missed}
-pub use Rattle.csi_lists.proofs.Searches.{find-no_place, find-none, find-none_in_filter, find-of_map, find-one}
-pub use Rattle.csi_lists.proofs.Searches.{find-passes}
-pub use Rattle.csi_lists.proofs.Tests.{alike, any-find, any-none, any-then, none-among, then-any}
+pub use Rattle.csi_types.proofs.Counts.{any-counted, count-cons}
+pub use Rattle.csi_types.proofs.Each.{each-append, each-append_one, each-at, each-filter, each-map, each-weaker}
+pub use Rattle.csi_types.proofs.Filters.{each-passes, filter-each, filter-no_longer, filter-no_one, filter-of_map}
+pub use Rattle.csi_types.proofs.Members.{all_of, among-append, among-back, among-empty, among-filter_map, among-find}
+pub use Rattle.csi_types.proofs.Members.{among-flat, among-joined, among-kept, among-map, among-moved, among-right}
+pub use Rattle.csi_types.proofs.Members.{each_of, empty-where, has-some, in-filter_map, in-flat, in-map, in_filter}
+pub use Rattle.csi_types.proofs.Members.{none_passes, some-found, some-has}
+pub use Rattle.csi_types.proofs.Options.{is_some-map, none-from_is_some, option_or-none, option_or-some}
+pub use Rattle.csi_types.proofs.Options.{some_is_not_none}
+pub use Rattle.csi_types.proofs.Pairs.{two-append, two-by_places, two-filter, two-flat, two-joined, two-map, two-more}
+pub use Rattle.csi_types.proofs.Places.{FirstAt-is_at, FirstAt-within, at-index, find-not_none, map_over_more-shown}
+pub use Rattle.csi_types.proofs.Places.{position-first, position-none, same-at}
+pub use Rattle.csi_types.proofs.Searches.{find-append, find-append_one, find-filter, find-map, find-missed}
+pub use Rattle.csi_types.proofs.Searches.{find-no_place, find-none, find-none_in_filter, find-of_map, find-one}
+pub use Rattle.csi_types.proofs.Searches.{find-passes}
+pub use Rattle.csi_types.proofs.Tests.{alike, any-find, any-none, any-then, none-among, then-any}
 pub use Rattle.csi_types.proofs.Equality.{same_capability-tells, same_kind-tells, same_number-tells, same_party-tells}
 pub use Rattle.csi_types.proofs.Equality.{same_text-tells}
 pub use Rattle.indexmap.proofs.CallerLemmas.{filter-RetainsPairs, index_map_len-with_value_at, insert_entry-new}

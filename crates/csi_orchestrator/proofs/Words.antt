@@ -15,8 +15,8 @@ pub use Rattle.std.specs.Prelude.{Err, IfErr, IfOk, IsErrAnd, IsOk, OnErr, OnOk,
 pub use Rattle.std.specs.Prelude.{filter_map, find, is_none, is_some, min, nat_eq, nat_le, nat_lt, option_and_then}
 pub use Rattle.std.specs.Prelude.{option_map, position, slice_get, ◌&&◌}
 pub use Rattle.std.specs.Vec.Iter.{into_iter_items, into_iter_len}
-pub use Rattle.csi_lists.specs.Model.Members.{EachTwo, IsAmong}
-pub use Rattle.csi_lists.specs.Public.Places.{FirstAt, IsAt}
+pub use Rattle.csi_types.specs.Model.Members.{EachTwo, IsAmong}
+pub use Rattle.csi_types.specs.Public.Places.{FirstAt, IsAt}
 pub use Rattle.csi_types.specs.declared.call.Call.{Call}
 pub use Rattle.csi_types.specs.declared.call.Kind.{Kind}
 pub use Rattle.csi_types.specs.declared.call.Party.{Party}

@@ -3,8 +3,8 @@ ghost use Rattle.std.specs.Prelude.{◌≡◌, ℕ, ◌+◌, ◌++◌, ◌∷◌
 ghost use Rattle.std.specs.Prelude.{OnOk, OnErr, IfOk, IfErr, IfSome};
 ghost use Rattle.indexmap.specs.IndexMap.{values, spare, index_map_len};
 ghost use Rattle.std.specs.List.{AllByRecursion};
-ghost use Rattle.csi_lists.specs.Model.Members.{EachTwo};
-ghost use Rattle.csi_lists.specs.Public.Places.{IsAt};
+ghost use Rattle.csi_types.specs.Model.Members.{EachTwo};
+ghost use Rattle.csi_types.specs.Public.Places.{IsAt};
 ghost use Rattle.csi_types.specs.Model.Same.{same_text};
 ghost use Rattle.csi_orchestrator.specs.Public.Catalog.{rows_of, by_name, place_noted, IsNoted, IsIndexed, AreUpTo, HasFewNotes};
 ghost use Rattle.csi_orchestrator.specs.Private.Catalog.{IsNotedWith, IsNextFor, IsReady, IsClosedAt, IsLostAt, AreNotedBefore};

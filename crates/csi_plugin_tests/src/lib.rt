@@ -1,5 +1,5 @@
-//! The tests of both plugins, which see of them what any user sees. There is nothing else here: a crate that has no test of its own is
-//! proved once less.
+//! The tests of both plugins, which see of them what any user sees; the plugins' crates have no test of their own, and so are proved once
+//! less. And a small plugin, `shelf.rt`, which shows what a new one has of its own: its row and its table.
 #![tactic(auto)]
 
 #[cfg(test)]
@@ -10,5 +10,6 @@ mod damage;
 mod node;
 #[cfg(test)]
 mod playing;
+mod shelf;
 #[cfg(test)]
 mod values;

@@ -2,7 +2,7 @@
 use Rattle.std.proofs.Common.{◌≡◌, ◌∙◌, ◌<◌, ◌≤◌, ◌+◌, ◌⊎◌, refl, sym, ap, ap₂, subst, inl, inr, ℕ, zero, suc, List, [], ◌∷◌, ◌++◌, length, map, take, drop, set, get_or, arith}
 use Rattle.std.specs.List.{AllByRecursion}
 use Rattle.std.proofs.lemmas.List.{map_push, map-append, take_more, take_all}
-use Rattle.csi_lists.proofs.Each.{each-append, each-append_one}
+use Rattle.csi_types.proofs.Each.{each-append, each-append_one}
 use Rattle.csi_stores.specs.Public.Content.{all_changed}
 use Rattle.csi_stores.specs.Public.Part.{StoredPart, StoredChange}
 use Rattle.csi_stores.specs.Public.Stores.{Store, Found, Parts, IsOnly, FindsSome}

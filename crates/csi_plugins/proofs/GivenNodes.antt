@@ -8,7 +8,7 @@ use Rattle.csi_node.specs.Model.Record.{NodeParts}
 use Rattle.csi_stores.specs.Public.Part.{StoredChange}
 use Rattle.csi_stores.specs.Public.Stores.{Store}
 use Rattle.csi_service.specs.Public.Renewed.{any_node_records}
-use Rattle.csi_endings.specs.declared.ending.Ending.{Ending}
+use Rattle.csi_streams.specs.declared.ending.Ending.{Ending}
 use Rattle.csi_plugins.specs.Public.Recovering.{IsUnchanged}
 use Rattle.csi_plugins.specs.Private.Recovering.{ReadStore, HasRead, HaveRead, IsNotRead, IsOneNotRead}
 use Rattle.csi_plugins.proofs.GivenStores.{unchanged-same}

@@ -17,7 +17,7 @@ use Rattle.csi_service.specs.declared.serving.fault.ServeFaultKind.TheVariants a
 use Rattle.csi_service.specs.Public.Serving.{AnswersEach, Serves, StopsBy, frames_counted}
 use Rattle.csi_service.proofs.GrowingAnswers.{answers-append}
 use Rattle.csi_service.specs.Public.Opening.{IsOpeningCommit, OpensTo, IsOpenFault}
-use Rattle.csi_endings.specs.declared.ending.Ending.{Ending}
+use Rattle.csi_streams.specs.declared.ending.Ending.{Ending}
 use Rattle.csi_plugins.specs.Public.Service.{Streams, setting_of}
 use Rattle.csi_plugins.specs.Public.Running.{IsOpeningRefused, Runs}
 use Rattle.csi_plugins.specs.Public.Joined.{Process, Sight, io_of, Way, Opened, Reopens, AreMade, RunsAgain, IsHindrance, IsHindered, Hindered, AreOneRun, Joins, AreThreeRuns, JoinsThree}

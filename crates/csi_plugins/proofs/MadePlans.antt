@@ -3,7 +3,7 @@ use Rattle.std.proofs.Common.{◌≡◌, ◌∙◌, ◌+◌, refl, sym, ap, ℕ,
 use Rattle.std.specs.Prelude.{Result, Ok, Err}
 use Rattle.std.specs.List.{AllByRecursion}
 use Rattle.std.proofs.lemmas.List.{map_push, append_assoc, append-nil, length-map, length-append}
-use Rattle.csi_lists.proofs.Each.{each-append_one}
+use Rattle.csi_types.proofs.Each.{each-append_one}
 use Rattle.csi_node.specs.Model.Record.{NodeParts}
 use Rattle.csi_stores.specs.Public.Part.{StoredChange}
 use Rattle.csi_service.specs.Public.Renewed.{any_node_records}

@@ -8,8 +8,8 @@ use Rattle.csi_records.specs.declared.fault.RecordStop.TheVariants.{BadRecord}
 use Rattle.csi_records.specs.declared.version.RecordVersion.{RecordVersion}
 use Rattle.csi_records.specs.Public.Places.{ReadsStored}
 use Rattle.csi_records.specs.Public.Records.{IsInSome, IsControllerRecord, IsNodeRecord, Begins}
-use Rattle.csi_endings.specs.declared.ending.Ending.{Ending}
-use Rattle.csi_endings.specs.declared.ending.Ending.TheVariants as endings
+use Rattle.csi_streams.specs.declared.ending.Ending.{Ending}
+use Rattle.csi_streams.specs.declared.ending.Ending.TheVariants as endings
 use Rattle.csi_plugins.specs.Public.Recording.{IsOrchestratorRecord, IsNodeOrOrchestrator, IsNoneAt}
 use Rattle.csi_plugins.specs.Private.Recording.{HasNoLine}
 

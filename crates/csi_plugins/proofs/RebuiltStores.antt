@@ -1,7 +1,7 @@
 -- What was read, made and given where a controller's store is made of the orchestrator's.
 use Rattle.std.proofs.Common.{◌≡◌, ◌∙◌, ◌≤◌, ◌+◌, refl, sym, ap, subst, inl, inr, ℕ, List, [], length, map, min, Err, arith}
-use Rattle.csi_lists.proofs.Each.{each-map}
-use Rattle.csi_lists.proofs.Maps.{map-twice}
+use Rattle.csi_types.proofs.Each.{each-map}
+use Rattle.csi_types.proofs.Maps.{map-twice}
 use Rattle.csi_controller.specs.Public.Views.{RecordParts}
 use Rattle.csi_node.specs.Model.Record.{NodeParts}
 use Rattle.csi_orchestrator.specs.Public.Record.{RecordParts as OrchestratorRecord}
@@ -29,8 +29,8 @@ use Rattle.csi_service.proofs.LoadedParts.{all-put}
 use Rattle.csi_service.proofs.RecordParts.{controller-rising}
 use Rattle.csi_service.proofs.RenewedParts.{all-renewed}
 use Rattle.std.proofs.lemmas.List.{append-nil}
-use Rattle.csi_endings.specs.declared.ending.Ending.{Ending}
-use Rattle.csi_endings.specs.declared.ending.Ending.TheVariants as endings
+use Rattle.csi_streams.specs.declared.ending.Ending.{Ending}
+use Rattle.csi_streams.specs.declared.ending.Ending.TheVariants as endings
 use Rattle.csi_plugins.specs.Public.Ending.{ending_of_store}
 use Rattle.csi_plugins.specs.Public.Recording.{Writer}
 use Rattle.csi_plugins.specs.Public.Recovering.{Fate, IsUnchanged, IsRecordIn, NodeStore}

@@ -2,8 +2,8 @@
 use Rattle.std.proofs.Common.{◌≡◌, ◌∙◌, ◌<◌, ◌+◌, refl, sym, ap, subst, inl, inr, ℕ, suc, List, [], ◌∷◌, ◌++◌, length, map, arith}
 use Rattle.std.specs.List.{AllByRecursion, AllZip}
 use Rattle.std.proofs.lemmas.List.{append-nil, length-map}
-use Rattle.csi_lists.proofs.Each.{each-map}
-use Rattle.csi_lists.proofs.Maps.{map-twice}
+use Rattle.csi_types.proofs.Each.{each-map}
+use Rattle.csi_types.proofs.Maps.{map-twice}
 use Rattle.csi_controller.specs.Public.Views.{RecordParts}
 use Rattle.csi_node.specs.Model.Record.{NodeParts}
 use Rattle.csi_orchestrator.specs.Model.Shown.{RowShown}
@@ -19,8 +19,8 @@ use Rattle.csi_records.specs.Public.Spelling.{present}
 use Rattle.csi_service.specs.Public.Opening.{Records, controller_records}
 use Rattle.csi_service.specs.Public.Renewed.{any_node_records}
 use Rattle.csi_service.proofs.RenewedParts.{all-renewed}
-use Rattle.csi_endings.specs.declared.ending.Ending.{Ending}
-use Rattle.csi_endings.specs.declared.ending.Ending.TheVariants as endings
+use Rattle.csi_streams.specs.declared.ending.Ending.{Ending}
+use Rattle.csi_streams.specs.declared.ending.Ending.TheVariants as endings
 use Rattle.csi_plugins.specs.Public.Ending.{ending_of_store}
 use Rattle.csi_plugins.specs.Public.Recording.{Writer}
 use Rattle.csi_plugins.specs.Public.Recovering.{Fate, IsLeft, IsUnchanged, IsRaisedBy, IsRaisedNode, IsRaisedController, NodeStore, Stores, IsRecovered, AreRead, AreNotRead, AreInTurn, IsRecoveryEnd, IsBegun}

@@ -7,8 +7,8 @@ use Rattle.csi_recovery.specs.declared.fault.RecoveryFault.{RecoveryFault}
 use Rattle.csi_recovery.specs.declared.fault.RecoveryFault.TheVariants.{SameNode, NotLater, Disagrees, BadNodes, BadRow, NoMemory}
 use Rattle.csi_recovery.specs.Public.Judged.{AreGiven, IsLater, IsRecoveryRefusal}
 use Rattle.csi_recovery.specs.Public.Session.{recovery_session}
-use Rattle.csi_endings.specs.declared.ending.Ending.{Ending}
-use Rattle.csi_endings.specs.declared.ending.Ending.TheVariants as endings
+use Rattle.csi_streams.specs.declared.ending.Ending.{Ending}
+use Rattle.csi_streams.specs.declared.ending.Ending.TheVariants as endings
 use Rattle.csi_plugins.specs.Public.Recovering.{leave_out_used, IsNoRecovery}
 use Rattle.csi_plugins.specs.Private.Recovering.{EndsByRow, EndsByFault}
 

@@ -5,8 +5,8 @@ use Rattle.csi_stores.specs.declared.keep.KeepFault.TheVariants.{Device, NoMemor
 use Rattle.csi_stores.specs.Public.Keeping.{IsForeignFault}
 use Rattle.csi_stores.specs.Public.Part.{StoredPart}
 use Rattle.csi_stores.specs.Public.Stores.{Store, IsLoadFault}
-use Rattle.csi_endings.specs.declared.ending.Ending.{Ending}
-use Rattle.csi_endings.specs.declared.ending.Ending.TheVariants as endings
+use Rattle.csi_streams.specs.declared.ending.Ending.{Ending}
+use Rattle.csi_streams.specs.declared.ending.Ending.TheVariants as endings
 use Rattle.csi_plugins.specs.Public.Ending.{ending_of_store, EndsAt}
 use Rattle.csi_plugins.specs.Public.Recording.{IsLineOf, IsSomeRecord, IsNoRecordAt, IsNotTold, IsRecordTold, WritesRecordLine, Writer}
 use Rattle.csi_plugins.specs.Private.Recording.{HasNoLine}

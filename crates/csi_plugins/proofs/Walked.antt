@@ -2,7 +2,7 @@
 use Rattle.std.proofs.Common.{◌≡◌, ◌∙◌, ◌<◌, ◌≤◌, ◌+◌, ◌-◌, ℕ, zero, suc, List, [], ◌∷◌, ◌++◌, length, map, take, drop, set, get_or, ap, ap₂, refl, sym, subst, arith}
 use Rattle.std.specs.List.{AllByRecursion, AllZip}
 use Rattle.std.proofs.lemmas.List.{map_push, length-map, length-take-le, take_more, drop_more, take_all, append_assoc, append-nil}
-use Rattle.csi_lists.proofs.Each.{each-append_one}
+use Rattle.csi_types.proofs.Each.{each-append_one}
 
 module _ {K E : Type 0} (before after : E → K) (P : E → Type 0) (olds : List K) where
   -- the first ones were gone through, and the others are as they were

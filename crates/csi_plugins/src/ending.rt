@@ -3,8 +3,8 @@ ghost use Rattle.std.specs.Prelude.{◌≡◌};
 ghost use Rattle.csi_plugins.specs.Public.Ending.{ending_of_store as by_store, ending_unopened as by_opening};
 ghost use Rattle.csi_plugins.specs.Public.Ending.{ending_of_node as by_node, ending_of_kind as by_kind, ending_of_serving as by_serving};
 
-use csi_endings::Ending;
 use csi_service::{KeepFault, NodeUnopened, ServeFault, ServeFaultKind, Served};
+use csi_streams::Ending;
 
 /// The ending where the store of a plugin refuses so: a device that fails, or is full; want of memory; or the first part that
 /// is none of the plugin's record.

@@ -10,11 +10,11 @@ ghost use Rattle.csi_plugins.specs.Private.Recovering.{ending_at as ended_at, en
 
 use crate::ending::ending_of_store;
 use csi_controller::ControllerRecord;
-use csi_endings::Ending;
 use csi_node::NodeRecord;
 use csi_orchestrator::OrchestratorRecord;
 use csi_records::{Record, Stored};
 use csi_service::{Keep, KeepFault, Part, Renewed, renewed_controller, renewed_node};
+use csi_streams::Ending;
 use csi_types::NoMemory;
 use std::alloc::Global;
 

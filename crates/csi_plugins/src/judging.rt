@@ -6,10 +6,10 @@ ghost use Rattle.csi_plugins.specs.Public.Recovering.{is_left_out as left_out, l
 ghost use Rattle.csi_plugins.specs.Private.Recovering.{EndsByRow, EndsByFault};
 
 use csi_controller::ControllerRecord;
-use csi_endings::Ending;
 use csi_node::NodeRecord;
 use csi_orchestrator::OrchestratorRecord;
 use csi_recovery::{RecoveryFault, recovered, recovery_session};
+use csi_streams::Ending;
 use csi_types::{NodeId, VolumeId};
 use std::alloc::Global;
 

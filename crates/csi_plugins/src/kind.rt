@@ -4,9 +4,9 @@ ghost use Rattle.csi_plugins.specs.Public.Asked.{IsOfConfig, IsNoConfig, IsOfId,
 ghost use Rattle.csi_plugins.specs.Public.Ending.{ending_unopened as by_opening};
 
 use crate::ending::ending_unopened;
-use csi_endings::Ending;
 use csi_json::{ScheduleFault, read_config};
 use csi_service::KeepFault;
+use csi_streams::Ending;
 use csi_types::{Config, NodeId, TextFault};
 use std::alloc::Global;
 

@@ -9,12 +9,12 @@ ghost use Rattle.csi_plugins.specs.Private.Recovering.{changes_of, LeadsOn, AreM
 use crate::given::GivenNodes;
 use crate::judging::judged;
 use csi_controller::ControllerRecord;
-use csi_endings::Ending;
 use csi_node::NodeRecord;
 use csi_orchestrator::OrchestratorRecord;
 use csi_records::Record;
 use csi_reports::recovery_line;
 use csi_service::{ControllerService, NodeService, Part, Renewed, parts_raising};
+use csi_streams::Ending;
 use csi_types::{Config, NoMemory, NodeId};
 use std::alloc::Global;
 

@@ -11,13 +11,13 @@ ghost use Rattle.csi_plugins.specs.Private.Recording.{IsOrchestratorText, HasNoL
 
 use crate::ending::ending_of_store;
 use csi_controller::ControllerRecord;
-use csi_endings::Ending;
 use csi_node::NodeRecord;
 use csi_orchestrator::OrchestratorRecord;
 use csi_records::{Record, RecordStop, Stored};
 use csi_reports::{controller_line, node_line, orchestrator_line};
 use csi_service::{Keep, Part};
 use csi_stores::{Counted, write_out};
+use csi_streams::Ending;
 use std::alloc::Global;
 use std::io::Write;
 

@@ -7,9 +7,9 @@ ghost use Rattle.csi_plugins.specs.Private.Recovering.{changes_of, AreGivenTo, A
 use crate::ending::ending_of_store;
 use crate::given::{controller_in, look_at_new, nodes_in};
 use crate::planning::{Plan, planned};
-use csi_endings::Ending;
 use csi_service::{Keep, KeepFault, Part};
 use csi_stores::{Counted, write_out};
+use csi_streams::Ending;
 use csi_types::NodeId;
 use std::alloc::Global;
 use std::io::Write;

@@ -4,10 +4,10 @@ ghost use Rattle.csi_plugins.specs.Public.Rebuilding.{IsRebuiltFrom, IsNoRebuild
 ghost use Rattle.csi_plugins.specs.Private.Rebuilding.{EndsRebuilding, EndsUnlike};
 
 use csi_controller::ControllerRecord;
-use csi_endings::Ending;
 use csi_node::NodeRecord;
 use csi_orchestrator::{Known, OrchestratorRecord, Row};
 use csi_recovery::{RebuildingFault, RecoveryFault, first_unlike, rebuilt};
+use csi_streams::Ending;
 use csi_types::{MAX_CAPACITY, wanted_capacity};
 use std::alloc::Global;
 

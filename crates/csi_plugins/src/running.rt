@@ -7,8 +7,8 @@ ghost use Rattle.csi_plugins.specs.Public.Running.{ControllerRuns, NodeRuns, Plu
 use crate::ending::{ending_of_node, ending_of_store};
 use crate::kind::AskedPlugin;
 use crate::service::served;
-use csi_endings::Ending;
 use csi_service::{ControllerService, Counted, Keep, NodeService};
+use csi_streams::Ending;
 use csi_types::{Config, NodeId};
 use std::alloc::Global;
 use std::io::{Read, Write};

@@ -3,8 +3,8 @@ ghost use Rattle.csi_service.specs.Public.Answering.{AnswersInRecord};
 ghost use Rattle.csi_plugins.specs.Public.Service.{IsServed, streams};
 
 use crate::ending::ending_of_serving;
-use csi_endings::Ending;
 use csi_service::{Core, Counted, Keep, serve};
+use csi_streams::Ending;
 use std::alloc::Global;
 use std::io::{Read, Write};
 

@@ -5,9 +5,9 @@ mod script;
 mod sessions;
 
 use crate::devices::{Devices, SOUND, new_store, reader, writer};
-use csi_endings::Ending;
 use csi_orchestration::{asked_nodes, orchestrator};
 use csi_stores::{Keep, KeepFault, Part};
+use csi_streams::Ending;
 use csi_types::NodeId;
 use script::{Side, WHOLE, head, lines, row, state_after};
 use std::alloc::Global;

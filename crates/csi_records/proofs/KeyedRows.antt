@@ -8,7 +8,7 @@ use Rattle.csi_records.specs.Public.OrchestratorSpelling.{KeyedRow, orchestrator
 use Rattle.csi_records.specs.Public.OrchestratorRows.{IsOrchestratorRow}
 use Rattle.csi_records.specs.Public.OrchestratorRecords.{keyed_from, IsKeyedRow}
 use Rattle.std.proofs.lemmas.List.{length-map, length-take-le, map_push}
-use Rattle.csi_lists.proofs.Each.{each-append_one}
+use Rattle.csi_types.proofs.Each.{each-append_one}
 use Rattle.csi_orchestrator.specs.declared.row.Row.{Row}
 use Rattle.csi_orchestrator.specs.Public.Shown.{row_shown}
 use Rattle.csi_stores.specs.declared.part.Part.{Part}

@@ -3,7 +3,7 @@ use Rattle.std.proofs.Common.{◌≡◌, ◌⊎◌, ℕ, ◌≤◌, ◌<◌, ◌
 use Rattle.std.specs.List.{flat_map, AllByRecursion}
 use Rattle.std.proofs.lemmas.Bool.{cases_order}
 use Rattle.std.proofs.lemmas.List.{append-nil, length-append, length-map, take-map, take_at}
-use Rattle.csi_lists.proofs.Each.{each-map}
+use Rattle.csi_types.proofs.Each.{each-map}
 use Rattle.csi_records.specs.declared.version.RecordVersion.{RecordVersion}
 use Rattle.csi_stores.specs.Public.Part.{StoredPart, IsPart}
 use Rattle.csi_records.specs.Public.Spelling.{part_bytes, record_head, record_bytes}

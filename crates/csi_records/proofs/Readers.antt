@@ -2,7 +2,7 @@
 use Rattle.std.proofs.Common.{◌≡◌, ℕ, Bool, true, false, cond, List, [], ◌++◌, Some, None, refl, sym, ap, subst, ◌∙◌, append_assoc}
 use Rattle.std.specs.Prelude.{Option}
 use Rattle.std.proofs.lemmas.List.{append-nil}
-use Rattle.csi_lists.proofs.Options.{some_is_not_none}
+use Rattle.csi_types.proofs.Options.{some_is_not_none}
 use Rattle.csi_frames.specs.Public.Bytes.{AreBytes}
 use Rattle.csi_frames.proofs.Bytes.{AreBytes-back}
 pub use Rattle.csi_frames.proofs.Readers.{Then, Given, Either}

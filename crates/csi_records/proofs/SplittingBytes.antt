@@ -11,7 +11,7 @@ use Rattle.csi_records.specs.declared.version.RecordVersion.{RecordVersion}
 use Rattle.csi_frames.specs.Public.Bytes.{AreBytes}
 use Rattle.csi_frames.specs.Public.Spelling as spelling
 use Rattle.csi_frames.proofs.Bytes.{AreBytes-take, AreBytes-back, four-back, four-again}
-use Rattle.csi_lists.proofs.Each.{each-append_one}
+use Rattle.csi_types.proofs.Each.{each-append_one}
 use Rattle.csi_stores.specs.Public.Part.{StoredPart, IsPart}
 use Rattle.csi_records.specs.Public.Spelling.{part_bytes, record_head}
 use Rattle.csi_records.specs.Public.Records.{Begins, IsRefusedAt}

@@ -1,7 +1,7 @@
 -- Records of any version and kind: the head tells which one, so that what is refused in it is refused in every other.
 use Rattle.std.proofs.Common.{◌≡◌, ℕ, List, [], ◌∷◌, ◌++◌, map, Some, None, Err, refl, sym, ap, subst, ◌∙◌, inl, inr}
 use Rattle.std.proofs.lemmas.Option.{same_Some}
-use Rattle.csi_lists.proofs.Options.{some_is_not_none}
+use Rattle.csi_types.proofs.Options.{some_is_not_none}
 use Rattle.csi_records.specs.declared.version.RecordVersion.{RecordVersion}
 use Rattle.csi_stores.specs.Public.Part.{StoredPart}
 use Rattle.csi_records.specs.declared.fault.RecordStop.{RecordStop}

@@ -5,7 +5,7 @@ use Rattle.std.specs.Global.{Vec}
 use Rattle.std.specs.List.{flat_map, AllByRecursion}
 use Rattle.std.proofs.lemmas.List.{append-nil, map-append, take_more, length-map}
 use Rattle.std.proofs.lemmas.List.Concat.{flat_map-append}
-use Rattle.csi_lists.proofs.Each.{each-append_one}
+use Rattle.csi_types.proofs.Each.{each-append_one}
 use Rattle.csi_stores.specs.declared.part.Part.{Part}
 use Rattle.csi_stores.specs.Public.Part.{StoredPart, IsPart, StoredChange, put_all, take_all, part_change, stored_in, all_stored_in, value_in, value_bytes}
 use Rattle.csi_records.specs.Public.Spelling.{part_bytes, list_spelling}

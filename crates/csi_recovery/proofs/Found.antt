@@ -7,10 +7,10 @@ use Rattle.std.specs.Ordering.{nat_cmp}
 use Rattle.std.specs.Result.{result_ok}
 use Rattle.std.proofs.lemmas.Bool.{false≢true}
 use Rattle.std.proofs.lemmas.List.{map-id}
-use Rattle.csi_lists.specs.Model.Members.{IsAmong, EachTwo}
-use Rattle.csi_lists.specs.Public.Places.{AtMostOne}
-use Rattle.csi_lists.proofs.Members.{none_passes}
-use Rattle.csi_lists.proofs.Places.{FirstAt-position, FirstAt-find}
+use Rattle.csi_types.specs.Model.Members.{IsAmong, EachTwo}
+use Rattle.csi_types.specs.Public.Places.{AtMostOne}
+use Rattle.csi_types.proofs.Members.{none_passes}
+use Rattle.csi_types.proofs.Places.{FirstAt-position, FirstAt-find}
 use Rattle.csi_fence.specs.Public.Rows.{AreRising, IsPlaceOf, IsGapFor}
 use Rattle.csi_fence.proofs.RisingRows.{rise-rows}
 use Rattle.csi_fence.proofs.FoundPlaces.{found-place}

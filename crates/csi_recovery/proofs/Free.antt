@@ -5,14 +5,14 @@ use Rattle.std.specs.List.{AllByRecursion}
 use Rattle.std.proofs.lemmas.Bool.{eqb-true}
 use Rattle.std.proofs.lemmas.List.{length-map, length-take-le, take_more}
 use Rattle.std.proofs.lemmas.Option.{none-some, same_Some, slice_get-get_or}
-use Rattle.csi_lists.specs.Model.Members.{IsAmong, EachTwo}
-use Rattle.csi_lists.specs.Public.Places.{AtMostOne}
-use Rattle.csi_lists.proofs.Each.{each-append_one}
-use Rattle.csi_lists.proofs.Filters.{filter-no_longer}
-use Rattle.csi_lists.proofs.Members.{all_of, each_of, among-find, among-filter, among-map, none_passes, one-of_all, in-map}
-use Rattle.csi_lists.proofs.Pairs.{two-filter, two-map}
-use Rattle.csi_lists.proofs.Searches.{find-passes}
-use Rattle.csi_lists.proofs.Tests.{all-then}
+use Rattle.csi_types.specs.Model.Members.{IsAmong, EachTwo}
+use Rattle.csi_types.specs.Public.Places.{AtMostOne}
+use Rattle.csi_types.proofs.Each.{each-append_one}
+use Rattle.csi_types.proofs.Filters.{filter-no_longer}
+use Rattle.csi_types.proofs.Members.{all_of, each_of, among-find, among-filter, among-map, none_passes, one-of_all, in-map}
+use Rattle.csi_types.proofs.Pairs.{two-filter, two-map}
+use Rattle.csi_types.proofs.Searches.{find-passes}
+use Rattle.csi_types.proofs.Tests.{all-then}
 use Rattle.csi_types.specs.declared.capability.Capability.{Capability}
 use Rattle.csi_types.specs.Model.Same.{same_text}
 use Rattle.csi_types.specs.Model.Sharing.{allows_one_target}

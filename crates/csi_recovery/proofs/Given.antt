@@ -3,7 +3,7 @@ use Rattle.std.proofs.Common.{◌≡◌, ◌<◌, ◌≤◌, ◌+◌, ◌-◌, �
 use Rattle.std.specs.Prelude.{Option, Some, None, find}
 use Rattle.std.proofs.lemmas.Bool.{false≢true}
 use Rattle.std.proofs.lemmas.List.{take_all}
-use Rattle.csi_lists.specs.Model.Members.{IsAmong}
+use Rattle.csi_types.specs.Model.Members.{IsAmong}
 use Rattle.csi_types.specs.Model.Same.{same_text}
 use Rattle.csi_node.specs.Model.Record.{NodeParts}
 use Rattle.csi_world.specs.Public.Recovered.{GivenNode}

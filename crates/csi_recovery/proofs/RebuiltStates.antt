@@ -9,13 +9,13 @@ use Rattle.std.proofs.lemmas.List.Elements.{filter_map-append}
 use Rattle.std.proofs.lemmas.List.Sorted.{IsPermutation-map, IsPermutation-sym}
 use Rattle.std.proofs.lemmas.Map.Keys.{IsDistinct-IsPermutation}
 use Rattle.std.proofs.lemmas.Option.{same_Some}
-use Rattle.csi_lists.specs.Model.Members.{IsAmong, EachTwo}
-use Rattle.csi_lists.specs.Public.Places.{AtMostOne}
-use Rattle.csi_lists.proofs.Each.{each-weaker}
-use Rattle.csi_lists.proofs.Maps.{map-twice}
-use Rattle.csi_lists.proofs.Members.{each_of, among-find, among-moved, among-back, none_passes}
-use Rattle.csi_lists.proofs.Pairs.{two-map}
-use Rattle.csi_lists.proofs.Searches.{find-none, find-one, find-passes}
+use Rattle.csi_types.specs.Model.Members.{IsAmong, EachTwo}
+use Rattle.csi_types.specs.Public.Places.{AtMostOne}
+use Rattle.csi_types.proofs.Each.{each-weaker}
+use Rattle.csi_types.proofs.Maps.{map-twice}
+use Rattle.csi_types.proofs.Members.{each_of, among-find, among-moved, among-back, none_passes}
+use Rattle.csi_types.proofs.Pairs.{two-map}
+use Rattle.csi_types.proofs.Searches.{find-none, find-one, find-passes}
 use Rattle.csi_types.specs.declared.holding.Holding.{Holding}
 use Rattle.csi_controller.specs.declared.row.ControllerRow.{ControllerRow}
 use Rattle.csi_controller.specs.declared.row.NodeHolding.{NodeHolding}

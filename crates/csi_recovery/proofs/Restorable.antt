@@ -6,11 +6,11 @@ use Rattle.std.specs.List.{AllByRecursion}
 use Rattle.std.proofs.lemmas.Bool.{false≢true}
 use Rattle.std.proofs.lemmas.List.{length-map}
 use Rattle.std.proofs.lemmas.Option.{none-some, same_Some}
-use Rattle.csi_lists.specs.Model.Members.{IsAmong, EachTwo}
-use Rattle.csi_lists.specs.Public.Places.{AtMostOne}
-use Rattle.csi_lists.proofs.Members.{all_of, each_of, among-find, among-map, none_passes}
-use Rattle.csi_lists.proofs.Pairs.{two-map, two-more}
-use Rattle.csi_lists.proofs.Searches.{find-missed, find-none}
+use Rattle.csi_types.specs.Model.Members.{IsAmong, EachTwo}
+use Rattle.csi_types.specs.Public.Places.{AtMostOne}
+use Rattle.csi_types.proofs.Members.{all_of, each_of, among-find, among-map, none_passes}
+use Rattle.csi_types.proofs.Pairs.{two-map, two-more}
+use Rattle.csi_types.proofs.Searches.{find-missed, find-none}
 use Rattle.csi_types.specs.declared.capability.Capability.{Capability}
 use Rattle.csi_types.specs.Model.Holding.{AreApart}
 use Rattle.csi_types.specs.Model.Same.{same_text, has_capability}

@@ -4,10 +4,10 @@ use Rattle.std.specs.Prelude.{◌==◌, Option, Some, None, find, filter, option
 use Rattle.std.specs.List.{list_all}
 use Rattle.std.proofs.lemmas.Bool.{and_from, and_parts, false≢true, eq-eqb, eqb-true}
 use Rattle.std.proofs.lemmas.Option.{none-some, same_Some}
-use Rattle.csi_lists.specs.Model.Members.{IsAmong}
-use Rattle.csi_lists.proofs.Members.{each_of, in-map, among-map, among-find, among-filter, passes-filter, in_filter}
-use Rattle.csi_lists.proofs.Searches.{find-passes}
-use Rattle.csi_lists.proofs.Tests.{all-then, then-all}
+use Rattle.csi_types.specs.Model.Members.{IsAmong}
+use Rattle.csi_types.proofs.Members.{each_of, in-map, among-map, among-find, among-filter, passes-filter, in_filter}
+use Rattle.csi_types.proofs.Searches.{find-passes}
+use Rattle.csi_types.proofs.Tests.{all-then, then-all}
 use Rattle.csi_types.specs.declared.capability.Capability.{Capability}
 use Rattle.csi_types.specs.declared.holding.Holding.{Holding}
 use Rattle.csi_types.specs.Model.Same.{same_text, same_flag, same_capability}

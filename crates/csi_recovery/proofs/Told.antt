@@ -1,11 +1,11 @@
 -- The rows that are read of the records are those of the states that the records show.
 use Rattle.std.proofs.Common.{◌≡◌, ℕ, List, [], ◌∷◌, map, refl, sym, ◌∙◌, ap, inl, inr}
 use Rattle.std.specs.Prelude.{◌==◌, Option, Some, None, find, filter, option_map, option_and_then, option_to_list}
-use Rattle.csi_lists.specs.Model.Members.{IsAmong}
-use Rattle.csi_lists.proofs.Filters.{filter-of_map}
-use Rattle.csi_lists.proofs.Maps.{map-twice}
-use Rattle.csi_lists.proofs.Members.{among-filter}
-use Rattle.csi_lists.proofs.Searches.{find-first, first_of_list}
+use Rattle.csi_types.specs.Model.Members.{IsAmong}
+use Rattle.csi_types.proofs.Filters.{filter-of_map}
+use Rattle.csi_types.proofs.Maps.{map-twice}
+use Rattle.csi_types.proofs.Members.{among-filter}
+use Rattle.csi_types.proofs.Searches.{find-first, first_of_list}
 use Rattle.csi_types.specs.declared.capability.Capability.{Capability}
 use Rattle.csi_types.specs.Model.Same.{same_text}
 use Rattle.csi_controller.specs.declared.row.ControllerRow.{ControllerRow}

@@ -1,7 +1,7 @@
 //! Where the records have a volume.
 ghost use Rattle.std.specs.Prelude.{◌≡◌, ◌<◌, ◌==◌, find, position};
 ghost use Rattle.std.specs.Option.{option_copied};
-ghost use Rattle.csi_lists.specs.Model.Members.{EachTwo};
+ghost use Rattle.csi_types.specs.Model.Members.{EachTwo};
 ghost use Rattle.csi_types.specs.Model.Same.{same_text};
 ghost use Rattle.csi_controller.specs.declared.row.ControllerRow.{ControllerRow as OneRow};
 ghost use Rattle.csi_controller.specs.Public.Core.{AreRisingRows};

@@ -1,9 +1,9 @@
 //! What a process does that makes an orchestrator's store of the plugins' stores in files, or a controller's of the orchestrator's.
 use crate::stores::{closed, controller_of, nodes_of};
-use csi_endings::Ending;
 use csi_plugins::{Recovery, asked_session, ending_unopened, rebuild, recover};
 use csi_sqlite::{OverStores, over_files_at};
 use csi_stores::{Counted, Keep};
+use csi_streams::Ending;
 use csi_words::MadeOf;
 use std::alloc::{AllocError, Global};
 use std::io::ErrorKind;

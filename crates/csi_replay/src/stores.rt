@@ -2,11 +2,11 @@
 ghost use Rattle.std.specs.Prelude.{◌≡◌};
 ghost use Rattle.csi_replay.specs.Private.Closing.{ending_done, ending_closed};
 
-use csi_endings::Ending;
 use csi_orchestration::{asked_nodes, orchestrator};
 use csi_plugins::{AskedPlugin, asked_session, ending_unopened, plugin, record};
 use csi_sqlite::{OverStore, over_file, over_found};
 use csi_stores::{Counted, Keep, KeepFault};
+use csi_streams::Ending;
 use csi_types::NodeId;
 use std::rt::Files;
 use std::{fs, io};

@@ -11,9 +11,9 @@ use Rattle.std.proofs.lemmas.Map.Keys.{IsDistinct-IsPermutation, apart_from_dist
 use Rattle.serde_json.specs.Data.{Data, string, array, number, unsigned, object, member, no_members}
 use Rattle.serde_json.specs.View.{items_of}
 use Rattle.serde_json.specs.Written.{compact_text}
-use Rattle.csi_lists.specs.Model.Members.{EachTwo}
-use Rattle.csi_lists.proofs.Members.{among-moved, among-back}
-use Rattle.csi_lists.proofs.Pairs.{two-by_places, two-more}
+use Rattle.csi_types.specs.Model.Members.{EachTwo}
+use Rattle.csi_types.proofs.Members.{among-moved, among-back}
+use Rattle.csi_types.proofs.Pairs.{two-by_places, two-more}
 use Rattle.csi_types.specs.Model.Same.{same_text}
 use Rattle.csi_orchestrator.specs.Model.Shown.{RowShown}
 use Rattle.csi_orchestrator.specs.Public.Record.{RecordParts}

@@ -9,9 +9,9 @@ use Rattle.std.proofs.lemmas.List.Sums.{sum_by-cons}
 use Rattle.std.proofs.lemmas.List.Sorted.{ranks_by, sorted_far, sum_by-IsPermutation}
 use Rattle.std.specs.declared.cmp.Ordering.{Ordering}
 use Rattle.std.specs.declared.cmp.Ordering.TheVariants.{Less, Equal, Greater}
-use Rattle.csi_lists.specs.Model.Members.{IsAmong, EachTwo}
-use Rattle.csi_lists.proofs.Members.{each_of}
-use Rattle.csi_lists.proofs.Pairs.{two-by_places}
+use Rattle.csi_types.specs.Model.Members.{IsAmong, EachTwo}
+use Rattle.csi_types.proofs.Members.{each_of}
+use Rattle.csi_types.proofs.Pairs.{two-by_places}
 
 module _ {X K : Type 0} (R : K → K → Ordering) (total : IsTotalOrder R) (apart : (a b : K) → R a b ≡ Equal → a ≡ b) (place : X → K) where
   -- no later element has a place before an earlier one's

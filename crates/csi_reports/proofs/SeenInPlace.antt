@@ -8,7 +8,7 @@ use Rattle.json.specs.Token.{key}
 use Rattle.json.specs.Tree.{json_tokens}
 use Rattle.serde_json.specs.Data.{Data, array}
 use Rattle.serde_json.specs.View.{items_of}
-use Rattle.csi_lists.proofs.Maps.{map-twice}
+use Rattle.csi_types.proofs.Maps.{map-twice}
 use Rattle.serde_json.specs.Written.{outline}
 use Rattle.csi_reports.specs.Public.Entries.{entries}
 use Rattle.csi_reports.specs.Public.Order.{place_order, IsInPlace}

@@ -1,7 +1,7 @@
 -- A frame that is no call for a plugin gets no answer and changes nothing; and each call for it gets one.
 use Rattle.std.proofs.Common.{◌≡◌, sym, refl, subst, inl, inr, Bool, true, false, cond}
 use Rattle.std.specs.Prelude.{◌↔◌, Option, Some, None, IsSome, IsTrue, IfSome, option_map, Result, Ok, Err, IfOk, OnErr}
-use Rattle.csi_lists.proofs.Options.{some_is_not_none}
+use Rattle.csi_types.proofs.Options.{some_is_not_none}
 use Rattle.csi_types.proofs.Equality.{same_party-tells}
 use Rattle.csi_types.specs.declared.number.Number.{Number}
 use Rattle.csi_types.specs.declared.call.Call.{Call}

@@ -2,8 +2,8 @@
 use Rattle.std.proofs.Common.{◌≡◌, sym, ap, refl, subst, ℕ, Bool, List, [], ◌∷◌, map, length, arith}
 use Rattle.std.specs.Prelude.{Option, Some, None, filter}
 use Rattle.std.specs.List.{AllByRecursion}
-use Rattle.csi_lists.proofs.Each.{each-weaker, each-map, each-filter}
-use Rattle.csi_lists.proofs.Members.{each_of, all_of, in-map}
+use Rattle.csi_types.proofs.Each.{each-weaker, each-map, each-filter}
+use Rattle.csi_types.proofs.Members.{each_of, all_of, in-map}
 use Rattle.csi_types.specs.declared.capability.Capability.{Capability}
 use Rattle.csi_controller.specs.declared.row.ControllerRow.{ControllerRow}
 use Rattle.csi_controller.specs.declared.row.NodeHolding.{NodeHolding}

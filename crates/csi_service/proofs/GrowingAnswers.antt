@@ -1,2 +1,2 @@
 -- Answers, frame after frame, that grow by a frame.
-pub use Rattle.csi_driver.proofs.GrowingAnswers.{answers-append}
+pub use Rattle.csi_streams.proofs.GrowingAnswers.{answers-append}

@@ -5,8 +5,8 @@ use Rattle.std.specs.List.{AllByRecursion, position_or_len}
 use Rattle.std.proofs.lemmas.Bool.Decides.{nat_tests}
 use Rattle.std.proofs.lemmas.List.Sums.{prefix_len-le-length}
 use Rattle.std.proofs.lemmas.Option.{slice_get_cases}
-use Rattle.csi_lists.proofs.Places.{FirstAt-position, FirstAt-passes, FirstAt-is_at}
-use Rattle.csi_lists.specs.Public.Places.{IsAt, FirstAt}
+use Rattle.csi_types.proofs.Places.{FirstAt-position, FirstAt-passes, FirstAt-is_at}
+use Rattle.csi_types.specs.Public.Places.{IsAt, FirstAt}
 use Rattle.csi_types.specs.declared.number.Number.{Number}
 use Rattle.csi_types.specs.Model.Same.{same_text}
 use Rattle.csi_orchestrator.specs.declared.fault.Heard.{Heard}

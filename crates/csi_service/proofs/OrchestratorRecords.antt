@@ -4,8 +4,8 @@ use Rattle.std.specs.Prelude.{Some, None, is_none}
 use Rattle.std.specs.List.{AllByRecursion}
 use Rattle.std.proofs.lemmas.Bool.{true≢false, lt-ltb}
 use Rattle.std.proofs.lemmas.Bool.Decides.{nat_tests}
-use Rattle.csi_lists.proofs.Each.{each-filter}
-use Rattle.csi_lists.proofs.Options.{some_is_not_none}
+use Rattle.csi_types.proofs.Each.{each-filter}
+use Rattle.csi_types.proofs.Options.{some_is_not_none}
 use Rattle.csi_types.specs.Public.Text.{IsNodeId}
 use Rattle.csi_orchestrator.specs.declared.fault.OrchFault.{OrchFault}
 use Rattle.csi_orchestrator.specs.declared.fault.OrchFault.TheVariants as refusals

@@ -2,10 +2,10 @@
 use Rattle.std.proofs.Common.{◌≡◌, sym, subst, ℕ, List}
 use Rattle.std.specs.Prelude.{Option, is_some}
 use Rattle.csi_types.specs.Model.Frame.{Frame}
-use Rattle.csi_driver.specs.Public.Framing.{Runs, begins, handled, flushed}
-use Rattle.csi_driver.specs.declared.waiting.AnswerFault.{AnswerFault}
-use Rattle.csi_driver.specs.Public.Waiting.{Settling, StopsAt}
-use Rattle.csi_driver.proofs.Groups.{IsFresh, Came, came-begun, came-settles, came-answered, Finished}
+use Rattle.csi_streams.specs.Public.Framing.{Runs, begins, handled, flushed}
+use Rattle.csi_streams.specs.declared.waiting.AnswerFault.{AnswerFault}
+use Rattle.csi_streams.specs.Public.Waiting.{Settling, StopsAt}
+use Rattle.csi_streams.proofs.Groups.{IsFresh, Came, came-begun, came-settles, came-answered, Finished}
 use Rattle.csi_stores.specs.Public.Part.{StoredPart}
 use Rattle.csi_stores.specs.Public.Stores.{Store}
 use Rattle.csi_service.specs.Private.Handling.{Serving, waiting_of, IsHandled, Flushes}

@@ -3,9 +3,9 @@ use Rattle.std.proofs.Common.{◌≡◌, ◌∙◌, ◌⊎◌, sym, ap, refl, su
 use Rattle.std.specs.Prelude.{filter, option_map, ◌==◌}
 use Rattle.std.specs.List.{AllByRecursion}
 use Rattle.std.proofs.lemmas.Bool.Decides.{nat_tests}
-use Rattle.csi_lists.specs.Model.Members.{IsAmong}
-use Rattle.csi_lists.proofs.Members.{each_of, all_of, among-filter, among-find}
-use Rattle.csi_lists.proofs.Options.{some_is_not_none}
+use Rattle.csi_types.specs.Model.Members.{IsAmong}
+use Rattle.csi_types.proofs.Members.{each_of, all_of, among-filter, among-find}
+use Rattle.csi_types.proofs.Options.{some_is_not_none}
 use Rattle.csi_types.specs.Public.VolumeId.{IsVolumeId}
 use Rattle.csi_types.specs.declared.number.Number.{Number}
 use Rattle.csi_stores.specs.declared.keep.KeepFault.{KeepFault}

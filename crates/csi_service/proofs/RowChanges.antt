@@ -5,10 +5,10 @@ use Rattle.std.specs.List.{AllByRecursion}
 use Rattle.std.proofs.lemmas.Bool.{eqb-true}
 use Rattle.std.proofs.lemmas.Bool.Decides.{nat_tests}
 use Rattle.std.proofs.lemmas.Option.{same_Some, slice_get-map}
-use Rattle.csi_lists.specs.Model.Members.{IsAmong}
-use Rattle.csi_lists.proofs.Members.{each_of, all_of, in-map, among-filter, among-find}
-use Rattle.csi_lists.proofs.Options.{some_is_not_none, some-from_map}
-use Rattle.csi_lists.proofs.Searches.{find-of_map}
+use Rattle.csi_types.specs.Model.Members.{IsAmong}
+use Rattle.csi_types.proofs.Members.{each_of, all_of, in-map, among-filter, among-find}
+use Rattle.csi_types.proofs.Options.{some_is_not_none, some-from_map}
+use Rattle.csi_types.proofs.Searches.{find-of_map}
 use Rattle.csi_types.specs.Public.VolumeId.{IsVolumeId}
 use Rattle.csi_types.specs.declared.number.Number.{Number}
 use Rattle.csi_types.specs.Model.Frame.{Frame}

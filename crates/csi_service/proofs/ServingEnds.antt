@@ -10,21 +10,21 @@ use Rattle.csi_frames.specs.Public.Spelling.{spelling}
 use Rattle.csi_frames.specs.Public.Stream.{FramesOf}
 use Rattle.csi_stores.specs.Public.Counting.{HasRisen}
 use Rattle.csi_stores.specs.declared.counted.Counted.{Counted}
-use Rattle.csi_driver.specs.declared.waiting.AnswerFault.{AnswerFault}
-use Rattle.csi_driver.specs.declared.waiting.AnswerFault.TheVariants as why
-use Rattle.csi_driver.specs.Public.Waiting.{Settling, EndsWaiting}
-use Rattle.csi_driver.proofs.StoreCalls.{follows-more}
-use Rattle.csi_driver.proofs.GrowingAnswers.{answers-length, answers-some}
-use Rattle.csi_driver.proofs.Items.{in-two, something, front-taken}
-use Rattle.csi_driver.proofs.Groups.{IsFresh, came-settles, came-stops, finished, refused-left, refused-cause, refused-written, unwritten-kept, unwritten-runs, unwritten-written}
-use Rattle.csi_driver.specs.declared.driver.DriveStop.{DriveStop}
-use Rattle.csi_driver.specs.declared.driver.DriveStop.TheVariants as stop
-use Rattle.csi_driver.specs.declared.frames.FramesFault.{FramesFault}
-use Rattle.csi_driver.specs.declared.frames.FramesFault.TheVariants as frames_faults
-use Rattle.csi_driver.specs.Public.Driving.{TellsReader}
-use Rattle.csi_driver.specs.Public.Framing.{Runs}
-use Rattle.csi_driver.specs.Public.Frames.{Halts, ReadsFrames, RestsAtFrames, Waits as RestWaits}
-use Rattle.csi_driver.proofs.Streams.{frames_few}
+use Rattle.csi_streams.specs.declared.waiting.AnswerFault.{AnswerFault}
+use Rattle.csi_streams.specs.declared.waiting.AnswerFault.TheVariants as why
+use Rattle.csi_streams.specs.Public.Waiting.{Settling, EndsWaiting}
+use Rattle.csi_streams.proofs.StoreCalls.{follows-more}
+use Rattle.csi_streams.proofs.GrowingAnswers.{answers-length, answers-some}
+use Rattle.csi_streams.proofs.Items.{in-two, something, front-taken}
+use Rattle.csi_streams.proofs.Groups.{IsFresh, came-settles, came-stops, finished, refused-left, refused-cause, refused-written, unwritten-kept, unwritten-runs, unwritten-written}
+use Rattle.csi_streams.specs.declared.driver.DriveStop.{DriveStop}
+use Rattle.csi_streams.specs.declared.driver.DriveStop.TheVariants as stop
+use Rattle.csi_streams.specs.declared.frames.FramesFault.{FramesFault}
+use Rattle.csi_streams.specs.declared.frames.FramesFault.TheVariants as frames_faults
+use Rattle.csi_streams.specs.Public.Driving.{TellsReader}
+use Rattle.csi_streams.specs.Public.Framing.{Runs}
+use Rattle.csi_streams.specs.Public.Frames.{Halts, ReadsFrames, RestsAtFrames, Waits as RestWaits}
+use Rattle.csi_streams.proofs.Streams.{frames_few}
 use Rattle.csi_stores.specs.Public.Part.{StoredPart}
 use Rattle.csi_stores.specs.Public.Stores.{Store, FollowsStore}
 use Rattle.csi_service.specs.declared.serving.fault.Served.{Served}

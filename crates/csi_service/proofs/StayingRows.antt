@@ -4,16 +4,16 @@ use Rattle.std.specs.Prelude.{Option, Some, None, find, filter, ◌==◌, not}
 use Rattle.std.specs.List.{AllByRecursion, list_any}
 use Rattle.std.proofs.lemmas.Bool.{eq-eqb}
 use Rattle.std.proofs.lemmas.Bool.Decides.{nat_tests}
-use Rattle.csi_lists.specs.Model.Members.{IsAmong}
-use Rattle.csi_lists.proofs.Each.{each-map, each-filter}
-use Rattle.csi_lists.proofs.Members.{all_of, among-map, among-filter, each_of, in-map, some-found}
-use Rattle.csi_lists.proofs.Options.{none-from_map}
-use Rattle.csi_lists.proofs.Searches.{find-of_map}
+use Rattle.csi_types.specs.Model.Members.{IsAmong}
+use Rattle.csi_types.proofs.Each.{each-map, each-filter}
+use Rattle.csi_types.proofs.Members.{all_of, among-map, among-filter, each_of, in-map, some-found}
+use Rattle.csi_types.proofs.Options.{none-from_map}
+use Rattle.csi_types.proofs.Searches.{find-of_map}
 use Rattle.csi_types.specs.Public.VolumeId.{IsVolumeId}
 use Rattle.csi_stores.specs.Public.Part.{StoredPart, StoredChange, take_all}
 use Rattle.csi_stores.specs.Public.Content.{take_out, changed_to, all_changed, AreRisingParts}
 use Rattle.csi_stores.proofs.RisingChanges.{AreAbove}
-pub use Rattle.csi_driver.proofs.StoreCalls.{all-append}
+pub use Rattle.csi_streams.proofs.StoreCalls.{all-append}
 use Rattle.csi_service.specs.Public.Plugins.{head_change}
 use Rattle.csi_service.proofs.RisingParts.{part_at, put-head, put-row, take-at}
 

@@ -4,8 +4,8 @@ use Rattle.std.specs.Prelude.{None}
 use Rattle.std.specs.List.{AllByRecursion}
 use Rattle.std.proofs.lemmas.Bool.{eqb-true}
 use Rattle.std.proofs.lemmas.List.{length-map, map-append}
-use Rattle.csi_lists.proofs.Filters.{filter-no_longer}
-use Rattle.csi_lists.proofs.Pairs.{two-filter}
+use Rattle.csi_types.proofs.Filters.{filter-no_longer}
+use Rattle.csi_types.proofs.Pairs.{two-filter}
 use Rattle.csi_types.specs.Model.Same.{same_text}
 use Rattle.csi_orchestrator.specs.Model.Moves.{without_node}
 use Rattle.csi_orchestrator.specs.Model.Shown.{RowShown, OrchestratorParts}

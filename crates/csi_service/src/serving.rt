@@ -11,8 +11,8 @@ mod fault;
 mod handling;
 
 use crate::plugin_core::Core;
-use csi_driver::{Frames, Source, Waiting};
 use csi_stores::{Counted, Keep};
+use csi_streams::{Frames, Source, Waiting};
 pub use fault::{ServeFault, ServeFaultKind, Served};
 use handling::{CoreHandler, stopped};
 use std::alloc::Global;

@@ -2,8 +2,8 @@
 //! isn't. Two tests bear a refusal at any allocation (`tools/refusals`): a commit that sees one leaves what was there, and is done then.
 use crate::contents::{Change, is_part, part};
 use crate::stops::opened;
+use csi_disk_tests::{Image, TableKeep};
 use csi_service::{Keep, KeepFault, MemoryKeep, Part};
-use csi_test_disks::{Image, TableKeep};
 use std::process::Abort;
 
 // What is there, what is committed at once, and what is there then.

@@ -5,8 +5,8 @@ use crate::contents::{has, puts};
 use crate::script::{AT_ONCE, CUTS, Cut, SCRIPT};
 use crate::serving::{End, input, run, stream, take};
 use crate::turns::{BEGUN, REWRITTEN, Turn};
+use csi_disk_tests::{DiskKeep, DiskStop, Image, NO_STOP, Opened, Stopping};
 use csi_service::{Counted, Keep, KeepFault, ServeFaultKind};
-use csi_test_disks::{DiskKeep, DiskStop, Image, NO_STOP, Opened, Stopping};
 use std::process::Abort;
 
 const DEVICE: ServeFaultKind = ServeFaultKind::Keep(KeepFault::Device);

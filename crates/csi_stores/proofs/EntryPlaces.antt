@@ -4,7 +4,7 @@ use Rattle.std.specs.Prelude.{nat_lt, nat_le, not, ◌==◌, Some, None, positio
 use Rattle.std.specs.List.{position_or_len, insert}
 use Rattle.std.proofs.lemmas.Bool.Decides.{nat_tests}
 use Rattle.std.proofs.lemmas.List.Quantifiers.{position-Some}
-use Rattle.csi_lists.proofs.Options.{some_is_not_none}
+use Rattle.csi_types.proofs.Options.{some_is_not_none}
 use Rattle.csi_stores.specs.declared.entries.Entry.{Entry}
 use Rattle.csi_stores.specs.Public.Part.{StoredPart}
 use Rattle.csi_stores.specs.Public.Content.{put_in}

@@ -9,14 +9,14 @@ use Rattle.csi_types.specs.declared.memory.NoMemory.{NoMemory}
 use Rattle.csi_stores.specs.declared.counted.Counted.{Counted}
 use Rattle.csi_stores.specs.Public.Counting.{HasRisen}
 use Rattle.csi_stores.specs.Public.Writing.{WritesFront}
-use Rattle.csi_driver.specs.declared.driver.DriveStop.{DriveStop}
-use Rattle.csi_driver.specs.declared.driver.DriveStop.TheVariants as stop
-use Rattle.csi_driver.specs.declared.frames.FramesFault.{FramesFault}
-use Rattle.csi_driver.specs.declared.frames.FramesFault.TheVariants as frames_faults
-use Rattle.csi_driver.specs.Public.Driving.{TellsReader as ReaderTold}
-use Rattle.csi_driver.specs.Public.Framing.{Runs, begins, handled, flushed}
-use Rattle.csi_driver.specs.Public.Frames.{EndsFrames, ReadsFrames}
-use Rattle.csi_driver.specs.Public.State.{State}
+use Rattle.csi_streams.specs.declared.driver.DriveStop.{DriveStop}
+use Rattle.csi_streams.specs.declared.driver.DriveStop.TheVariants as stop
+use Rattle.csi_streams.specs.declared.frames.FramesFault.{FramesFault}
+use Rattle.csi_streams.specs.declared.frames.FramesFault.TheVariants as frames_faults
+use Rattle.csi_streams.specs.Public.Driving.{TellsReader as ReaderTold}
+use Rattle.csi_streams.specs.Public.Framing.{Runs, begins, handled, flushed}
+use Rattle.csi_streams.specs.Public.Frames.{EndsFrames, ReadsFrames}
+use Rattle.csi_streams.specs.Public.State.{State}
 use Rattle.csi_streams.specs.declared.giving.Appending.{Appending}
 use Rattle.csi_streams.specs.declared.giving.Writing.{Writing}
 use Rattle.csi_streams.specs.declared.giving.GivingFault.{GivingFault}

@@ -1,3 +1,17 @@
+pub mod Items
+pub mod FaultPlaces
+pub mod Streams
+pub mod Reaching
+pub mod FrameEnding
+pub mod LineStreams
+pub mod Fronts
+pub mod LineReaching
+pub mod LineEnding
+pub mod StoreCalls
+pub mod GrowingAnswers
+pub mod Groups
+pub mod WaitingStops
+pub mod IdleParts
 pub mod Answered
 pub mod ShownLines
 pub mod GivenBytes

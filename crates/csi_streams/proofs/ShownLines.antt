@@ -7,10 +7,10 @@ use Rattle.csi_types.specs.declared.capability.Capability.{Capability}
 use Rattle.csi_types.specs.Model.Frame.{Frame}
 use Rattle.csi_frames.specs.Public.Spelling.{spelling}
 use Rattle.csi_types.specs.declared.memory.NoMemory.{NoMemory}
-use Rattle.csi_streams.specs.declared.lines.Lines.{Lines}
+use Rattle.csi_streams.specs.declared.showing.Lines.{Lines}
 use Rattle.csi_streams.specs.Private.Handling.{Handles}
 use Rattle.csi_streams.specs.Public.Shown.{capability_word, capability_words, frame_words}
-use Rattle.csi_streams.specs.Public.Lines.{with_blanks, frame_line, lines_from, lines}
+use Rattle.csi_streams.specs.Public.FrameLines.{with_blanks, frame_line, lines_from, lines}
 use Rattle.csi_streams.specs.Private.Showing.{HasShown, after_blanks}
 use Rattle.csi_streams.specs.Public.Streaming.{AreLines}
 

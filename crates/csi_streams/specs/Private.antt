@@ -1,3 +1,6 @@
+pub mod Framing
+pub mod Lining
+pub mod Looked
 pub mod Answering
 pub mod Showing
 pub mod Handling

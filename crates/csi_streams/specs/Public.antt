@@ -1,5 +1,16 @@
+pub mod Ending
+pub mod State
+pub mod Driving
+pub mod Framing
+pub mod Handled
+pub mod Frames
+pub mod LinesOf
+pub mod Lining
+pub mod Lines
+pub mod Waiting
+pub mod Answering
 pub mod Replay
 pub mod Shown
-pub mod Lines
+pub mod FrameLines
 pub mod Streaming
 pub mod Failing

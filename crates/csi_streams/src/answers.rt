@@ -31,7 +31,7 @@ use thiserror::Error;
 
 /// Why a stream wasn't answered whole.
 #[derive(Clone, Copy, Debug, PartialEq, Eq, Error)]
-pub enum AnswerFault {
+pub enum SliceFault {
     /// The bytes after the last whole frame are no frame: the kind of their first fault, and its place, counted from the
     /// front of the stream.
     #[error("{0}, at byte {1} of the stream")]
@@ -104,7 +104,7 @@ fn new_controller(alloc: Global) -> Controller
 /// frame for a node count, and get nothing. What was appended before an `Err` stays: at `Frame` all replies to the frames
 /// before the fault, at `NoMemory` those to some of the first frames. The stream and the controller's configuration are
 /// this profile's own.
-pub fn answer(alloc: Global, input: &[u8], out: &mut Vec<u8>) -> Result<u64, AnswerFault>
+pub fn answer(alloc: Global, input: &[u8], out: &mut Vec<u8>) -> Result<u64, SliceFault>
     // The input is frames and a rest that begins with none,
     ensures stream { (frames : List FrameParts) × (rest : List ℕ) × FramesOf input.now frames rest }
     // and these frames were answered.

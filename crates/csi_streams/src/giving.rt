@@ -1,10 +1,10 @@
 //! What is given for frames: appended, or written together where no frame is there.
 ghost use Rattle.std.specs.Prelude.{◌≡◌, []};
-ghost use Rattle.csi_driver.specs.Public.State.{State};
+ghost use Rattle.csi_streams.specs.Public.State.{State};
 ghost use Rattle.csi_streams.specs.Private.Handling.{Gives, WritesGiven, StopsGiving};
 
+use crate::frame_handler::FrameHandler;
 use crate::handler::Handler;
-use csi_driver::FrameHandler;
 use csi_frames::FrameRef;
 use csi_stores::{Counted, WriteFailed, write_out};
 use csi_types::NoMemory;

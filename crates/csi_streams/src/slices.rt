@@ -4,21 +4,21 @@ ghost use Rattle.csi_types.specs.Model.Frame.{Frame};
 ghost use Rattle.csi_frames.specs.Public.Stream.{FramesOf};
 ghost use Rattle.csi_streams.specs.Private.Handling.{HandlesWhole, slice_fault};
 
-use crate::answers::AnswerFault;
+use crate::answers::SliceFault;
+use crate::frames::{Frames, FramesFault};
 use crate::giving::Appending;
 use crate::handler::Handler;
-use csi_driver::{Frames, FramesFault};
 use csi_types::NoMemory;
 use std::alloc::Global;
 
 // Why the frames of a slice weren't handled to their end.
-fn fault_of(fault: FramesFault<NoMemory>) -> AnswerFault
+fn fault_of(fault: FramesFault<NoMemory>) -> SliceFault
     ensures { result ≡ slice_fault fault }
 {
     match fault {
-        FramesFault::Frame(kind, place) => AnswerFault::Frame(kind, place),
-        FramesFault::NoMemory => AnswerFault::NoMemory,
-        FramesFault::Handler(NoMemory) => AnswerFault::NoMemory,
+        FramesFault::Frame(kind, place) => SliceFault::Frame(kind, place),
+        FramesFault::NoMemory => SliceFault::NoMemory,
+        FramesFault::Handler(NoMemory) => SliceFault::NoMemory,
     }
 }
 
@@ -28,7 +28,7 @@ pub(crate) fn handle_slice<H: Handler>(
     handler: H,
     input: &[u8],
     out: &mut Vec<u8>,
-) -> Result<u64, AnswerFault>
+) -> Result<u64, SliceFault>
     requires handled { H.has_handled handler [] }
     requires gave { H.gives [] [] }
     ensures { (frames : List Frame) (rest : List ℕ) → FramesOf input.now frames rest → HandlesWhole H.gives frames rest out.old.items out.new.items result }

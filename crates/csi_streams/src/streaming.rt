@@ -4,9 +4,10 @@ ghost use Rattle.csi_streams.specs.Public.Failing.{TellsReader, TellsWriter};
 ghost use Rattle.csi_streams.specs.Private.Handling.{stream_fault};
 ghost use Rattle.csi_streams.specs.Public.Streaming.{IsStreamed};
 
+use crate::driver::DriveStop;
+use crate::frames::{Frames, FramesFault};
 use crate::giving::{GivingFault, Writing};
 use crate::handler::Handler;
-use csi_driver::{DriveStop, Frames, FramesFault};
 use csi_frames::FaultKind;
 use csi_stores::Counted;
 use std::alloc::Global;

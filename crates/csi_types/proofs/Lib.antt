@@ -1,3 +1,14 @@
+pub mod Options
+pub mod Members
+pub mod Each
+pub mod Pairs
+pub mod Filters
+pub mod Searches
+pub mod Tests
+pub mod Maps
+pub mod Places
+pub mod Counts
+pub mod PassingByKey
 pub mod Equality
 pub mod Holdings
 pub mod Order

@@ -1,3 +1,4 @@
+pub mod Members
 pub mod Mode
 pub mod Call
 pub mod Reply

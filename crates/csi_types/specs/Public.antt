@@ -1,3 +1,4 @@
+pub mod Places
 pub mod Text
 pub mod TextFault
 pub mod Detail

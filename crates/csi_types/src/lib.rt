@@ -1,6 +1,9 @@
 //! The values of the volume lifecycle of the Container Storage Interface (CSI), as plugins and the
 //! orchestrator pass them to one another, and the events of a run. Each type keeps its limits: no value
 //! outside them can be made.
+//! Beside them stand facts about lists that name no type of this product: what is among a list, what a search
+//! finds, what a filter keeps, and how these go through changes. The definitions are in `specs/` (`Members`,
+//! `Places`), the lemmas in `proofs/`.
 #![tactic(auto)]
 
 mod call;

@@ -32,7 +32,7 @@ ghost use Rattle.csi_words.specs.Private.Words.{IsAddedAs, ending_of_words, with
 use crate::help::{Help, help_asked};
 use clap::error::ErrorKind;
 use clap::{Arg, ArgAction, ArgMatches, Command, Error};
-use csi_endings::{Ending, FileCommand, ScheduleCommand};
+use csi_streams::{Ending, FileCommand, ScheduleCommand};
 use std::alloc::{AllocError, Global};
 
 /// What the words name: a command, with the texts behind it, or the help that they ask for.

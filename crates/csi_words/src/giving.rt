@@ -1,8 +1,8 @@
 //! A text, written out.
 ghost use Rattle.csi_words.specs.Public.Giving.{GivesText};
 
-use csi_endings::Ending;
 use csi_stores::{Counted, write_out};
+use csi_streams::Ending;
 use std::io::Write;
 
 /// Writes this text, and flushes. `Device` says that the writer failed, which is counted, and then a front of the text is written. This

@@ -7,21 +7,21 @@ pub use Rattle.std.proofs.lemmas.List.{append-nil, get_or_default, length-map, r
 pub use Rattle.std.proofs.lemmas.List.{take_more}
 pub use Rattle.std.proofs.lemmas.List.Elements.{filter_map-append}
 pub use Rattle.std.proofs.lemmas.Option.{none-some, same_Some}
-pub use Rattle.csi_lists.proofs.Each.{each-append, each-append_one, each-at, each-filter, each-place}
-pub use Rattle.csi_lists.proofs.Maps.{map-same}
-pub use Rattle.csi_lists.proofs.Members.{all_of, among-append, among-by_key, among-either, among-filter}
-pub use Rattle.csi_lists.proofs.Members.{among-filter_map, among-find, among-flat, among-joined, among-kept}
-pub use Rattle.csi_lists.proofs.Members.{among-last, among-map, among-one, among-right, each_of, empty-where}
-pub use Rattle.csi_lists.proofs.Members.{in-filter_map, in-flat, in-map, in_filter, none_passes, some-found}
-pub use Rattle.csi_lists.proofs.Options.{is_some-map, none-from_map, none-where, some-from_map, some_is_not_none}
-pub use Rattle.csi_lists.proofs.Pairs.{two-append, two-by_key, two-filter, two-map, two-more}
-pub use Rattle.csi_lists.proofs.Places.{FirstAt-find, FirstAt-only, FirstAt-passes, FirstAt-position, at-index}
-pub use Rattle.csi_lists.proofs.Places.{position-first, position-none}
-pub use Rattle.csi_lists.proofs.Searches.{find-and, find-filter, find-filter_not, find-map, find-missed, find-no_place}
-pub use Rattle.csi_lists.proofs.Searches.{find-none, find-none_in_filter, find-of_map, find-one, find-passes}
-pub use Rattle.csi_lists.proofs.Searches.{find-same_among}
-pub use Rattle.csi_lists.proofs.Tests.{alike, all-then, any-find, any-find_none, any-none, any-of_map, any-then}
-pub use Rattle.csi_lists.proofs.Tests.{none-among, then-all, then-any}
+pub use Rattle.csi_types.proofs.Each.{each-append, each-append_one, each-at, each-filter, each-place}
+pub use Rattle.csi_types.proofs.Maps.{map-same}
+pub use Rattle.csi_types.proofs.Members.{all_of, among-append, among-by_key, among-either, among-filter}
+pub use Rattle.csi_types.proofs.Members.{among-filter_map, among-find, among-flat, among-joined, among-kept}
+pub use Rattle.csi_types.proofs.Members.{among-last, among-map, among-one, among-right, each_of, empty-where}
+pub use Rattle.csi_types.proofs.Members.{in-filter_map, in-flat, in-map, in_filter, none_passes, some-found}
+pub use Rattle.csi_types.proofs.Options.{is_some-map, none-from_map, none-where, some-from_map, some_is_not_none}
+pub use Rattle.csi_types.proofs.Pairs.{two-append, two-by_key, two-filter, two-map, two-more}
+pub use Rattle.csi_types.proofs.Places.{FirstAt-find, FirstAt-only, FirstAt-passes, FirstAt-position, at-index}
+pub use Rattle.csi_types.proofs.Places.{position-first, position-none}
+pub use Rattle.csi_types.proofs.Searches.{find-and, find-filter, find-filter_not, find-map, find-missed, find-no_place}
+pub use Rattle.csi_types.proofs.Searches.{find-none, find-none_in_filter, find-of_map, find-one, find-passes}
+pub use Rattle.csi_types.proofs.Searches.{find-same_among}
+pub use Rattle.csi_types.proofs.Tests.{alike, all-then, any-find, any-find_none, any-none, any-of_map, any-then}
+pub use Rattle.csi_types.proofs.Tests.{none-among, then-all, then-any}
 pub use Rattle.csi_types.proofs.Equality.{same_capability-tells, same_kind-tells, same_number-tells, same_party-tells}
 pub use Rattle.csi_types.proofs.Equality.{same_plugin_thing-tells, same_text-tells}
 pub use Rattle.csi_fence.proofs.Judged.{Judgement, was_fresh, was_judged, was_over, was_repeated, was_stale}

@@ -9,7 +9,7 @@ use Rattle.csi_world.proofs.Words.{is_success_of, issued_in, since}
 use Rattle.csi_world.proofs.Lemmas.{false≢true, none-some, same_text-tells, any-then, then-any, forgotten-follows}
 use Rattle.csi_world.proofs.Lemmas.{noted-follows}
 use Rattle.csi_orchestrator.proofs.RowViews.{told_by as view_of}
-use Rattle.csi_lists.proofs.Filters.{filter-no_longer}
+use Rattle.csi_types.proofs.Filters.{filter-no_longer}
 use Rattle.csi_orchestrator.specs.declared.thing.Thing.TheVariants as things
 use Rattle.csi_orchestrator.specs.Model.Agrees.{Agrees}
 use Rattle.csi_world.proofs.KnownThings.{at-named}

@@ -5,11 +5,11 @@ use Rattle.std.specs.List.{cons_option}
 use Rattle.std.specs.Prelude.{option_and_then}
 use Rattle.std.proofs.lemmas.Bool.{and_from, or_left, or_parts, or_right, eq-eqb, false≢true}
 use Rattle.std.proofs.lemmas.Option.{none-some, same_Some}
-use Rattle.csi_lists.specs.Model.Members.{IsAmong, EachTwo}
-use Rattle.csi_lists.proofs.Members.{all_of, each_of, among-back, among-filter_map, among-find, among-flat, among-moved, in-filter_map, in-flat, some-found}
-use Rattle.csi_lists.proofs.Options.{some-from_map}
-use Rattle.csi_lists.proofs.Pairs.{two-flat}
-use Rattle.csi_lists.proofs.Searches.{find-of_map, find-one, find-passes}
+use Rattle.csi_types.specs.Model.Members.{IsAmong, EachTwo}
+use Rattle.csi_types.proofs.Members.{all_of, each_of, among-back, among-filter_map, among-find, among-flat, among-moved, in-filter_map, in-flat, some-found}
+use Rattle.csi_types.proofs.Options.{some-from_map}
+use Rattle.csi_types.proofs.Pairs.{two-flat}
+use Rattle.csi_types.proofs.Searches.{find-of_map, find-one, find-passes}
 use Rattle.csi_types.specs.declared.holding.Holding.{Holding}
 use Rattle.csi_types.specs.Model.Same.{same_text}
 use Rattle.csi_types.proofs.Equality.{same_text-tells}

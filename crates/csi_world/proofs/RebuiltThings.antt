@@ -4,11 +4,11 @@ use Rattle.std.proofs.Common.{◌≡◌, ◌⊎◌, ℕ, ◌<◌, ◌≤◌, Lis
 use Rattle.std.specs.List.{list_any}
 use Rattle.std.proofs.lemmas.Bool.{and_from, and_parts, eq-eqb, eqb-true, false≢true, or_cases, true≢false}
 use Rattle.std.proofs.lemmas.Option.{none-some, same_Some}
-use Rattle.csi_lists.specs.Model.Members.{IsAmong}
-use Rattle.csi_lists.proofs.Members.{among-find, among-kept, in_filter, none_passes}
-use Rattle.csi_lists.proofs.Options.{none-where}
-use Rattle.csi_lists.proofs.Searches.{find-passes}
-use Rattle.csi_lists.proofs.Tests.{any-then, then-any}
+use Rattle.csi_types.specs.Model.Members.{IsAmong}
+use Rattle.csi_types.proofs.Members.{among-find, among-kept, in_filter, none_passes}
+use Rattle.csi_types.proofs.Options.{none-where}
+use Rattle.csi_types.proofs.Searches.{find-passes}
+use Rattle.csi_types.proofs.Tests.{any-then, then-any}
 use Rattle.csi_types.specs.declared.call.Call.{Call}
 use Rattle.csi_types.specs.declared.call.Call.TheVariants as calls
 use Rattle.csi_types.specs.declared.call.Kind.{Kind}

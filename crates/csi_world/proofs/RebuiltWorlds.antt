@@ -1,10 +1,10 @@
 -- All is so of a world that is kept of every world once a controller that is made of what its orchestrator keeps took the place of a lost one.
 use Rattle.std.proofs.Common.{◌≡◌, ◌⊎◌, ℕ, ◌<◌, ◌≤◌, List, Bool, true, false, Some, None, IsTrue, ◌==◌, ◌&&◌, refl, sym, ◌∙◌, ap, subst, inl, inr, ⊎_elim, arith}
 use Rattle.std.proofs.lemmas.Bool.{and_parts, eqb-true, false_from_ne_true, false≢true, or_cases, or_left}
-use Rattle.csi_lists.specs.Model.Members.{IsAmong}
-use Rattle.csi_lists.proofs.Members.{among-find}
-use Rattle.csi_lists.proofs.Options.{none-where, some-from_map}
-use Rattle.csi_lists.proofs.Searches.{find-passes}
+use Rattle.csi_types.specs.Model.Members.{IsAmong}
+use Rattle.csi_types.proofs.Members.{among-find}
+use Rattle.csi_types.proofs.Options.{none-where, some-from_map}
+use Rattle.csi_types.proofs.Searches.{find-passes}
 use Rattle.csi_types.specs.declared.call.Call.{Call}
 use Rattle.csi_types.specs.declared.call.Call.TheVariants as calls
 use Rattle.csi_types.specs.declared.call.Party.{Party}

@@ -3,10 +3,10 @@
 use Rattle.std.proofs.Common.{◌≡◌, ℕ, ◌<◌, ◌≤◌, ◌-◌, List, [], ◌∷◌, ◌++◌, map, filter, find, true, false, cond, Option, Some, None, option_map, is_some, IsTrue, ◌==◌, refl, sym, ◌∙◌, ap, subst, inl, inr, ⊎_elim, arith}
 use Rattle.std.proofs.lemmas.Bool.{or_left, false≢true}
 use Rattle.std.proofs.lemmas.Option.{same_Some}
-use Rattle.csi_lists.specs.Model.Members.{IsAmong}
-use Rattle.csi_lists.proofs.Members.{among-joined, among-find, among-kept, among-map, in-map}
-use Rattle.csi_lists.proofs.Options.{some-from_map}
-use Rattle.csi_lists.proofs.Searches.{find-of_map, find-one, find-passes}
+use Rattle.csi_types.specs.Model.Members.{IsAmong}
+use Rattle.csi_types.proofs.Members.{among-joined, among-find, among-kept, among-map, in-map}
+use Rattle.csi_types.proofs.Options.{some-from_map}
+use Rattle.csi_types.proofs.Searches.{find-of_map, find-one, find-passes}
 use Rattle.csi_types.specs.declared.call.Call.{Call}
 use Rattle.csi_types.specs.declared.call.Call.TheVariants as calls
 use Rattle.csi_types.specs.declared.call.Kind.{Kind}

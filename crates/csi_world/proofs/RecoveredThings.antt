@@ -3,11 +3,11 @@ use Rattle.csi_world.proofs.Words.{arith}
 use Rattle.std.proofs.Common.{◌≡◌, ℕ, List, [], ◌∷◌, map, find, Bool, true, false, cond, Option, Some, None, option_map, is_some, ◌==◌, ◌&&◌, refl, sym, ◌∙◌, ap, subst, inl}
 use Rattle.std.proofs.lemmas.Bool.{and_parts, eqb-true, eq-eqb, false≢true}
 use Rattle.std.proofs.lemmas.Option.{none-some}
-use Rattle.csi_lists.specs.Model.Members.{IsAmong}
-use Rattle.csi_lists.proofs.Members.{each_of, among-find, in_filter, in-map, some-found}
-use Rattle.csi_lists.proofs.Options.{some-from_map, none-where}
-use Rattle.csi_lists.proofs.Searches.{find-of_map, find-one, find-passes, find-same_among}
-use Rattle.csi_lists.proofs.Tests.{alike}
+use Rattle.csi_types.specs.Model.Members.{IsAmong}
+use Rattle.csi_types.proofs.Members.{each_of, among-find, in_filter, in-map, some-found}
+use Rattle.csi_types.proofs.Options.{some-from_map, none-where}
+use Rattle.csi_types.proofs.Searches.{find-of_map, find-one, find-passes, find-same_among}
+use Rattle.csi_types.proofs.Tests.{alike}
 use Rattle.csi_types.specs.declared.capability.Capability.{Capability}
 use Rattle.csi_types.specs.declared.holding.Holding.{Holding}
 use Rattle.csi_types.specs.Model.Same.{same_text}

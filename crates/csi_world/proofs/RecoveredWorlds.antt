@@ -3,8 +3,8 @@
 use Rattle.std.proofs.Common.{◌≡◌, ℕ, ◌≤◌, List, [], ◌∷◌, map, find, Bool, true, Option, Some, None, option_map, refl, sym, ◌∙◌, ap, subst, inl, inr, ⊎_elim, arith}
 use Rattle.std.proofs.lemmas.Bool.{false≢true}
 use Rattle.std.proofs.lemmas.Option.{none-some, same_Some}
-use Rattle.csi_lists.specs.Model.Members.{IsAmong}
-use Rattle.csi_lists.proofs.Members.{all_of, each_of, among-append, among-right, among-joined, among-kept, among-map, in-map}
+use Rattle.csi_types.specs.Model.Members.{IsAmong}
+use Rattle.csi_types.proofs.Members.{all_of, each_of, among-append, among-right, among-joined, among-kept, among-map, in-map}
 use Rattle.csi_types.specs.declared.call.Call.{Call}
 use Rattle.csi_types.specs.declared.call.Call.TheVariants as calls
 use Rattle.csi_types.specs.declared.call.Kind.{Kind}

@@ -8,8 +8,8 @@ pub use Rattle.std.proofs.Common.{◌∷◌, ◌≡◌, ◌≢◌, ◌≤◌, �
 pub use Rattle.std.specs.List.{AllByRecursion, flat_map, list_all, list_any, remove}
 pub use Rattle.std.specs.Option.{option_or, option_to_list}
 pub use Rattle.std.specs.Prelude.{codes, is_none, nat_le, option_and_then}
-pub use Rattle.csi_lists.specs.Model.Members.{EachTwo, IsAmong}
-pub use Rattle.csi_lists.specs.Public.Places.{AtMostOne, FirstAt}
+pub use Rattle.csi_types.specs.Model.Members.{EachTwo, IsAmong}
+pub use Rattle.csi_types.specs.Public.Places.{AtMostOne, FirstAt}
 pub use Rattle.csi_types.specs.declared.call.Call.{Call}
 pub use Rattle.csi_types.specs.declared.call.Kind.{Kind}
 pub use Rattle.csi_types.specs.declared.call.Party.{Party}

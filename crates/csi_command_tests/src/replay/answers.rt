@@ -1,7 +1,7 @@
 //! The replies to a stream, whole, and before that in want of memory.
 use super::running::{Written, bytes_of};
 use super::{CONTROLLER_PUBLISH, CREATE, CREATED, NO_NODE};
-use csi_commands::{AnswerFault, answer};
+use csi_commands::{SliceFault, answer};
 use std::alloc::Global;
 
 // DeleteVolume of id 1 under (1, 3), and its reply.
@@ -24,7 +24,7 @@ fn is_front(out: &[u8], replies: &[u8]) -> bool {
 fn is_answered(alloc: Global, calls: &[u8], replies: &[u8], frames: u64) -> bool {
     let mut out = Vec::new(alloc);
     let first = answer(alloc, calls, &mut out);
-    if first != Err(AnswerFault::NoMemory) {
+    if first != Err(SliceFault::NoMemory) {
         return first == Ok(frames) && out.as_slice() == replies;
     }
     let has_front = is_front(out.as_slice(), replies);

@@ -1,8 +1,8 @@
 //! Commands on readers that give little at once or fail, and on writers that take little or nothing, or can't be flushed.
 use super::drawing::Pictures;
 use csi_commands::stream;
-use csi_endings::{Ending, FileCommand};
 use csi_stores::Counted;
+use csi_streams::{Ending, FileCommand};
 use std::alloc::Global;
 use std::io;
 use std::io::{ErrorKind, Read, Write};

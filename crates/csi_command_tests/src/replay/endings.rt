@@ -1,7 +1,7 @@
 //! How a run of the program ends.
-use csi_endings::Ending;
 use csi_frames::FaultKind;
 use csi_json::ScheduleFault;
+use csi_streams::Ending;
 use std::alloc::{AllocError, Global};
 use std::io::ErrorKind;
 use std::process::Abort;

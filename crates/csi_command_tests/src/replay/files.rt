@@ -4,8 +4,8 @@ use super::{
     CONTROLLER_PUBLISH, CREATE, CREATE_SIX, CREATED, Case, DAMAGED, DELETE, DELETED, NO_NODE,
     NODE_PUBLISH,
 };
-use csi_endings::Ending;
 use csi_frames::FaultKind;
+use csi_streams::Ending;
 
 const DONE: Ending = Ending::Done;
 

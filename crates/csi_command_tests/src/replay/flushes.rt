@@ -2,7 +2,7 @@
 use super::devices::{AT_ONCE, Ways, outcome_of};
 use super::running::{asked_in, bytes_of};
 use super::{CREATE, CREATED, Case, DELETE, DELETED, NO_EVENT, NO_EVENT_REPORT};
-use csi_endings::Ending;
+use csi_streams::Ending;
 
 // Each command with the most bytes that wait for a flush at one time. At a read come 31 bytes, as many as one call to delete has, and the one to
 // create takes two reads. The replies have 33 bytes each, the first line has 32 and each of the others 33.

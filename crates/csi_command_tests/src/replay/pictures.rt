@@ -1,8 +1,8 @@
 //! Schedules that are drawn.
 use super::Case;
 use super::running::run_all;
-use csi_endings::Ending;
 use csi_json::ScheduleFault;
+use csi_streams::Ending;
 
 // Names of marks of XML's, control characters, and what no XML may have; and a frame that nobody delivers.
 const HOSTILE: &str =

@@ -6,9 +6,9 @@ use super::{
     CONTROLLER_PUBLISH, CREATE, CREATED, Case, DAMAGED, DELETE, DELETED, NO_EVENT, NO_EVENT_REPORT,
     NO_NODE,
 };
-use csi_endings::{Ending, FileCommand, ScheduleCommand};
 use csi_frames::FaultKind;
 use csi_json::ScheduleFault;
+use csi_streams::{Ending, FileCommand, ScheduleCommand};
 use std::process::Abort;
 
 // Whether the case ends as it is to end, after so many bytes of what it is to give, where reader and writer do so.

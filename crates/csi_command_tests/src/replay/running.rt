@@ -3,7 +3,7 @@
 use super::Case;
 use super::drawing::Pictures;
 use csi_commands::file;
-use csi_endings::{Ending, FileCommand, ScheduleCommand};
+use csi_streams::{Ending, FileCommand, ScheduleCommand};
 use std::alloc::{AllocError, Global};
 use std::process::Abort;
 

@@ -2,8 +2,8 @@
 use super::running::{Written, gives, run_all};
 use super::schedules::with_objects;
 use super::{CREATE, CREATE_SIX, CREATED, Case, NO_EVENT, NO_EVENT_REPORT};
-use csi_endings::{Ending, FileCommand, ScheduleCommand};
 use csi_json::{MAX_EVENTS, ScheduleFault};
+use csi_streams::{Ending, FileCommand, ScheduleCommand};
 
 const DONE: Ending = Ending::Done;
 

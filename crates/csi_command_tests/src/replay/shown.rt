@@ -1,8 +1,8 @@
 //! Files of frames, shown in lines.
 use super::running::run_all;
 use super::{CONTROLLER_PUBLISH, CREATE, CREATE_SIX, Case, DAMAGED, DELETE, DELETED, NODE_PUBLISH};
-use csi_endings::Ending;
 use csi_frames::FaultKind;
+use csi_streams::Ending;
 
 const DONE: Ending = Ending::Done;
 

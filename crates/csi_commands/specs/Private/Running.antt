@@ -1,6 +1,6 @@
 -- What is given of a schedule that is run, and why one isn't run. This profile's own.
-use Rattle.csi_endings.specs.declared.ending.Ending.{Ending}
-use Rattle.csi_endings.specs.declared.ending.Ending.TheVariants as endings
+use Rattle.csi_streams.specs.declared.ending.Ending.{Ending}
+use Rattle.csi_streams.specs.declared.ending.Ending.TheVariants as endings
 use Rattle.csi_json.specs.declared.fault.ScheduleFault.{ScheduleFault}
 use Rattle.csi_json.specs.declared.fault.ScheduleFault.TheVariants.{NotJson, BadSchedule, TooMany, NoMemory}
 

@@ -5,8 +5,8 @@ use Rattle.csi_stores.specs.declared.output.WriteFailed.{WriteFailed}
 use Rattle.csi_stores.specs.Public.Counting.{HasRisen}
 use Rattle.csi_streams.specs.declared.streaming.StreamFault.{StreamFault}
 use Rattle.csi_streams.specs.declared.streaming.StreamFault.TheVariants as stops
-use Rattle.csi_endings.specs.declared.ending.Ending.{Ending}
-use Rattle.csi_endings.specs.declared.ending.Ending.TheVariants as endings
+use Rattle.csi_streams.specs.declared.ending.Ending.{Ending}
+use Rattle.csi_streams.specs.declared.ending.Ending.TheVariants as endings
 
 -- how it ends by what the stream came to
 abbrev pub ending_of_stream : Result ℕ StreamFault → Ending

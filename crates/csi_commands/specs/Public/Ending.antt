@@ -1,13 +1,13 @@
 -- How a command on the bytes of a file ends. This profile's own.
 use Rattle.std.specs.Prelude.{◌≡◌, ℕ, List}
 use Rattle.csi_types.specs.Model.Frame.{Frame}
-use Rattle.csi_endings.specs.declared.ending.Ending.{Ending}
-use Rattle.csi_endings.specs.declared.ending.Ending.TheVariants.{Done, FrameFault, Memory}
-use Rattle.csi_streams.specs.declared.answers.AnswerFault.TheVariants as faults
-use Rattle.csi_endings.specs.declared.command.FileCommand.{FileCommand}
-use Rattle.csi_endings.specs.declared.command.FileCommand.TheVariants.{Answer, Show, Schedule}
+use Rattle.csi_streams.specs.declared.ending.Ending.{Ending}
+use Rattle.csi_streams.specs.declared.ending.Ending.TheVariants.{Done, FrameFault, Memory}
+use Rattle.csi_streams.specs.declared.answers.SliceFault.TheVariants as faults
+use Rattle.csi_streams.specs.declared.command.FileCommand.{FileCommand}
+use Rattle.csi_streams.specs.declared.command.FileCommand.TheVariants.{Answer, Show, Schedule}
 use Rattle.csi_streams.specs.Public.Replay.{spelled_replies, AppendsAll, Fails}
-use Rattle.csi_streams.specs.Public.Lines.{lines}
+use Rattle.csi_streams.specs.Public.FrameLines.{lines}
 use Rattle.csi_commands.specs.Public.Running.{Drawing, Plays, IsScheduleRefused}
 
 -- Of a command on frames, that gives this text of them: where it is done, it has appended that of all frames, and the rest is empty; a fault is

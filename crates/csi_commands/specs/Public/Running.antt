@@ -12,10 +12,10 @@ use Rattle.csi_world.specs.Public.Settling.{spelled_out}
 use Rattle.csi_world.specs.Model.Simulated.{WorldParts}
 use Rattle.csi_commands.specs.Public.Playing.{IsPlayed}
 use Rattle.csi_reports.specs.Public.Report.{IsReport}
-use Rattle.csi_endings.specs.declared.command.ScheduleCommand.{ScheduleCommand}
-use Rattle.csi_endings.specs.declared.command.ScheduleCommand.TheVariants.{Run, Frames, Draw}
-use Rattle.csi_endings.specs.declared.ending.Ending.{Ending}
-use Rattle.csi_endings.specs.declared.ending.Ending.TheVariants as endings
+use Rattle.csi_streams.specs.declared.command.ScheduleCommand.{ScheduleCommand}
+use Rattle.csi_streams.specs.declared.command.ScheduleCommand.TheVariants.{Run, Frames, Draw}
+use Rattle.csi_streams.specs.declared.ending.Ending.{Ending}
+use Rattle.csi_streams.specs.declared.ending.Ending.TheVariants as endings
 
 -- the bytes are the report of the world, and a newline
 pub record IsReportLine (world : WorldParts) (bytes : List ℕ) : Type 0 where

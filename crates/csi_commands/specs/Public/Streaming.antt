@@ -6,12 +6,12 @@ use Rattle.csi_frames.specs.declared.fault.FaultKind.TheVariants.{Short}
 use Rattle.csi_frames.specs.Public.Stream.{FramesOf}
 use Rattle.csi_stores.specs.Public.Counting.{HasRisen}
 use Rattle.csi_streams.specs.Public.Replay.{Grows}
-use Rattle.csi_driver.specs.Public.Frames.{Waits}
+use Rattle.csi_streams.specs.Public.Frames.{Waits}
 use Rattle.csi_streams.specs.Public.Streaming.{AreReplies, AreLines, GivesFront}
-use Rattle.csi_endings.specs.declared.command.FileCommand.{FileCommand}
-use Rattle.csi_endings.specs.declared.command.FileCommand.TheVariants.{Answer, Show, Schedule}
-use Rattle.csi_endings.specs.declared.ending.Ending.{Ending}
-use Rattle.csi_endings.specs.declared.ending.Ending.TheVariants as endings
+use Rattle.csi_streams.specs.declared.command.FileCommand.{FileCommand}
+use Rattle.csi_streams.specs.declared.command.FileCommand.TheVariants.{Answer, Show, Schedule}
+use Rattle.csi_streams.specs.declared.ending.Ending.{Ending}
+use Rattle.csi_streams.specs.declared.ending.Ending.TheVariants as endings
 use Rattle.csi_commands.specs.Public.Ending.{EndsAs, RunsAs}
 use Rattle.csi_commands.specs.Public.Running.{Drawing, Plays}
 

@@ -11,11 +11,11 @@ use Rattle.std.proofs.lemmas.List.{length-set}
 use Rattle.std.proofs.lemmas.List.Elements.{recursion_from_All}
 use Rattle.std.proofs.lemmas.Option.{get_or_from_slice_get, same_Some}
 use Rattle.std.proofs.Math.Bool.{not-not}
-use Rattle.csi_lists.proofs.Counts.{count-cons}
-use Rattle.csi_lists.proofs.Each.{each-at, each-set, each-weaker}
-use Rattle.csi_lists.proofs.Options.{some_is_not_none}
-use Rattle.csi_lists.proofs.Places.{AtMostOne-set}
-use Rattle.csi_lists.specs.Public.Places.{AtMostOne, IsAt}
+use Rattle.csi_types.proofs.Counts.{count-cons}
+use Rattle.csi_types.proofs.Each.{each-at, each-set, each-weaker}
+use Rattle.csi_types.proofs.Options.{some_is_not_none}
+use Rattle.csi_types.proofs.Places.{AtMostOne-set}
+use Rattle.csi_types.specs.Public.Places.{AtMostOne, IsAt}
 use Rattle.csi_types.specs.declared.call.Call.{Call}
 use Rattle.csi_types.specs.declared.call.Call.TheVariants as calls
 use Rattle.csi_types.specs.declared.call.Party.TheVariants.{Controller}

@@ -1,7 +1,7 @@
 -- How a controller's parts are a state, and the rules of its rows.
 use Rattle.std.specs.Prelude.{◌≡◌, ℕ, ◌<◌, ◌≤◌, ◌^◌, ◌==◌, List, [], ◌∷◌, length, true, false, if◌then◌else◌, IsTrue}
 use Rattle.std.specs.List.{AllByRecursion}
-use Rattle.csi_lists.specs.Public.Places.{AtMostOne}
+use Rattle.csi_types.specs.Public.Places.{AtMostOne}
 use Rattle.csi_types.specs.declared.rows.TheConstants.{MAX_ROWS}
 use Rattle.csi_types.specs.declared.holding.Holding.{Holding}
 use Rattle.csi_types.specs.declared.number.Number.{Number}

@@ -1,7 +1,7 @@
 -- What is so of the holdings of every controller, said of its rows: CSI's spec.md, "CreateVolume" (`AccessMode`)
 -- and "ControllerPublishVolume".
 use Rattle.std.specs.Prelude.{◌≡◌, [], false}
-use Rattle.csi_lists.specs.Model.Members.{EachTwo}
+use Rattle.csi_types.specs.Model.Members.{EachTwo}
 use Rattle.csi_types.specs.Model.Holding.{AreApart}
 use Rattle.csi_controller.specs.declared.row.ControllerRow.{ControllerRow}
 use Rattle.csi_controller.specs.Model.Shown.{holdings_in_row}

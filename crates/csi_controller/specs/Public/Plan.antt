@@ -1,7 +1,7 @@
 -- A controller's rows as rows behind the fence: what its table does with them, and the rules of rows. This profile's own.
 use Rattle.std.specs.Prelude.{◌≡◌, ℕ, ◌+◌, ◌<◌, ◌≤◌, ◌^◌, List, [], map, length, Bool, true, false, not, ◌&&◌, nat_le, IsTrue}
 use Rattle.std.specs.List.{AllByRecursion, list_any}
-use Rattle.csi_lists.specs.Public.Places.{AtMostOne}
+use Rattle.csi_types.specs.Public.Places.{AtMostOne}
 use Rattle.csi_types.specs.declared.rows.TheConstants.{MAX_ROWS}
 use Rattle.csi_types.specs.declared.number.Number.{Number}
 use Rattle.csi_types.specs.declared.call.Call.{Call}

@@ -1,7 +1,7 @@
 -- What a controller keeps by itself, whatever frames come: CSI's spec.md, "CreateVolume" (`AccessMode`) and "Volume
 -- Lifecycle".
 use Rattle.std.specs.Prelude.{◌≡◌, ◌⊎◌, ◌≤◌, ◌+◌, ◌==◌, List, length, count_by, true, IsSome}
-use Rattle.csi_lists.specs.Model.Members.{EachTwo, IsAmong}
+use Rattle.csi_types.specs.Model.Members.{EachTwo, IsAmong}
 use Rattle.csi_types.specs.declared.holding.Holding.{Holding}
 use Rattle.csi_controller.specs.Model.State.{Volume, ControllerState, empty_controller, live_volume}
 use Rattle.csi_controller.specs.Public.Fenced.{ConfiguredFrame, after_configured}

@@ -1,6 +1,6 @@
 -- The records of what handles have, and an orchestrator that is made of them. This profile's own.
 use Rattle.std.specs.Prelude.{◌≡◌, ℕ, ◌+◌, ◌^◌, Bool, false, List, [], ◌∷◌, Option, Some, None}
-use Rattle.csi_lists.specs.Model.Members.{IsAmong}
+use Rattle.csi_types.specs.Model.Members.{IsAmong}
 use Rattle.csi_controller.specs.Model.Core.{Shows}
 use Rattle.csi_controller.specs.Model.State.{ControllerState}
 use Rattle.csi_controller.specs.Public.Views.{RecordParts}

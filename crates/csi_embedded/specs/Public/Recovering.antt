@@ -1,6 +1,6 @@
 -- An orchestrator that is made of what the plugins of handles keep, after its own store was lost; and the session of a recovery. This profile's own.
 use Rattle.std.specs.Prelude.{◌≡◌, ◌⊎◌, ℕ, ◌+◌, ◌^◌, Bool, true, false, List, [], ◌∷◌, map, Option, Some, None}
-use Rattle.csi_lists.specs.Model.Members.{IsAmong}
+use Rattle.csi_types.specs.Model.Members.{IsAmong}
 use Rattle.csi_controller.specs.Model.Core.{Shows}
 use Rattle.csi_controller.specs.Model.State.{ControllerState}
 use Rattle.csi_node.specs.Model.Record.{Shows as NodeShows}

@@ -1,6 +1,6 @@
 -- What a table keeps, and what it does with a row. This profile's own.
 use Rattle.std.specs.Prelude.{◌≡◌, ℕ, ◌<◌, ◌==◌, List, length, filter, find, not, All, slice_get, slice_set, Some, None}
-use Rattle.csi_lists.specs.Public.Places.{AtMostOne}
+use Rattle.csi_types.specs.Public.Places.{AtMostOne}
 use Rattle.csi_types.specs.declared.rows.TheConstants.{MAX_ROWS}
 use Rattle.csi_types.specs.declared.number.Number.{Number}
 use Rattle.csi_types.specs.declared.call.Call.{Call}

@@ -2,7 +2,7 @@
 -- several targets.
 use Rattle.std.specs.Prelude.{◌≡◌, ◌⊎◌, ◌≤◌, ◌+◌, ◌==◌, ℕ, false, List, length, count_by, Some, is_some, IsSome}
 use Rattle.csi_types.specs.Model.Frame.{Frame}
-use Rattle.csi_lists.specs.Model.Members.{IsAmong, EachTwo}
+use Rattle.csi_types.specs.Model.Members.{IsAmong, EachTwo}
 use Rattle.csi_types.specs.Model.Sharing.{allows_one_target}
 use Rattle.csi_node.specs.Model.State.{NodeState, AnsweredVolume, PublishedVolume, joined_node, staged_of}
 use Rattle.csi_node.specs.Public.Fenced.{after_frames}

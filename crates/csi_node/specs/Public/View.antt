@@ -11,7 +11,7 @@ use Rattle.csi_fence.specs.Public.Delivery.{PluginView, view_by, IsDelivered, Is
 use Rattle.csi_fence.specs.Model.Fence.{Kept}
 use Rattle.csi_types.specs.Model.Frame.{Frame}
 use Rattle.csi_types.specs.Public.PluginThing.{PluginThing, Exists, Attached, Staged, Published, ThingForm, StagedAs, PublishedAs}
-use Rattle.csi_lists.specs.Model.Members.{IsAmong}
+use Rattle.csi_types.specs.Model.Members.{IsAmong}
 use Rattle.csi_types.specs.Model.Replies.{call_frame}
 use Rattle.csi_types.specs.Model.Same.{same_text}
 use Rattle.csi_node.specs.Model.State.{NodeState, StagedVolume, joined_node, row_with_id, staged_of, published_at}

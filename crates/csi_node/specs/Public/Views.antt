@@ -1,6 +1,6 @@
 -- What a node's lists of stagings and targets show. This profile's own.
 use Rattle.std.specs.Prelude.{◌≡◌, ℕ, ◌==◌, ◌<◌, ◌≤◌, List, filter}
-use Rattle.csi_lists.specs.Model.Members.{EachTwo}
+use Rattle.csi_types.specs.Model.Members.{EachTwo}
 use Rattle.csi_node.specs.declared.entries.Staged.{Staged}
 use Rattle.csi_node.specs.declared.entries.Published.{Published}
 use Rattle.csi_node.specs.Model.State.{NodeState, StagedVolume, PublishedVolume, published_of}

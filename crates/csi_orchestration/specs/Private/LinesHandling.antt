@@ -3,16 +3,16 @@ use Rattle.std.specs.Prelude.{◌≡◌, ℕ, List, Bool, true, Option, Some, if
 use Rattle.csi_stores.specs.declared.counted.Counted.{Counted}
 use Rattle.csi_stores.specs.Public.Part.{StoredPart}
 use Rattle.csi_stores.specs.Public.Stores.{Store}
-use Rattle.csi_driver.specs.declared.driver.DriveStop.{DriveStop}
-use Rattle.csi_driver.specs.declared.driver.DriveStop.TheVariants as stop
-use Rattle.csi_driver.specs.declared.lines.LinesFault.{LinesFault}
-use Rattle.csi_driver.specs.declared.lines.LinesFault.TheVariants as lines_faults
-use Rattle.csi_driver.specs.declared.waiting.AnswerFault.{AnswerFault}
-use Rattle.csi_driver.specs.declared.waiting.AnswerFault.TheVariants as why
-use Rattle.csi_driver.specs.Public.LinesOf.{with_newline}
-use Rattle.csi_driver.specs.Public.State.{State}
-use Rattle.csi_driver.specs.Public.Waiting.{Settling, Settles, StopsAt}
-use Rattle.csi_driver.specs.Public.Answering.{IsAnswered}
+use Rattle.csi_streams.specs.declared.driver.DriveStop.{DriveStop}
+use Rattle.csi_streams.specs.declared.driver.DriveStop.TheVariants as stop
+use Rattle.csi_streams.specs.declared.lines.LinesFault.{LinesFault}
+use Rattle.csi_streams.specs.declared.lines.LinesFault.TheVariants as lines_faults
+use Rattle.csi_streams.specs.declared.waiting.AnswerFault.{AnswerFault}
+use Rattle.csi_streams.specs.declared.waiting.AnswerFault.TheVariants as why
+use Rattle.csi_streams.specs.Public.LinesOf.{with_newline}
+use Rattle.csi_streams.specs.Public.State.{State}
+use Rattle.csi_streams.specs.Public.Waiting.{Settling, Settles, StopsAt}
+use Rattle.csi_streams.specs.Public.Answering.{IsAnswered}
 use Rattle.csi_orchestration.specs.declared.lines_serving.fault.LinesServeFaultKind.{LinesServeFaultKind}
 use Rattle.csi_orchestration.specs.declared.lines_serving.fault.LinesServeFaultKind.TheVariants as kinds
 use Rattle.csi_orchestration.specs.declared.lines_serving.handling.ResponderHandler.{ResponderHandler}

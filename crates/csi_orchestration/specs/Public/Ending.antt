@@ -1,7 +1,7 @@
 -- How an orchestrator's process ends, by what its store and serving answered. This profile's own.
 use Rattle.std.specs.Prelude.{◌≡◌, ℕ, Result, Ok, Err}
-use Rattle.csi_endings.specs.declared.ending.Ending.{Ending}
-use Rattle.csi_endings.specs.declared.ending.Ending.TheVariants as endings
+use Rattle.csi_streams.specs.declared.ending.Ending.{Ending}
+use Rattle.csi_streams.specs.declared.ending.Ending.TheVariants as endings
 use Rattle.csi_stores.specs.declared.keep.KeepFault.{KeepFault}
 use Rattle.csi_stores.specs.declared.keep.KeepFault.TheVariants.{Device, NoMemory, BadRecord, Full}
 use Rattle.csi_service.specs.declared.orchestrator_unopened.OrchestratorUnopened.{OrchestratorUnopened}

@@ -1,6 +1,6 @@
 -- How a line is answered. This profile's own.
 use Rattle.std.specs.Prelude.{◌≡◌, ℕ, List, ◌++◌}
-use Rattle.csi_driver.specs.Public.LinesOf.{with_newline}
+use Rattle.csi_streams.specs.Public.LinesOf.{with_newline}
 use Rattle.csi_stores.specs.Public.Part.{StoredPart}
 use Rattle.csi_service.specs.Public.Answering.{AreRecord}
 

@@ -2,9 +2,9 @@
 use Rattle.std.specs.Prelude.{◌≡◌, ◌≢◌, ◌⊎◌, ℕ, ◌≤◌, List, [], ◌++◌, length, take, slice_get, Option, Some, Result, Ok, Err}
 use Rattle.std.specs.List.{flat_map, AllByRecursion}
 use Rattle.std.specs.Io.KnownBytes.{Appends}
-use Rattle.csi_driver.specs.Public.LinesOf.{LinesOf, with_newline, and_last, IsShort}
-use Rattle.csi_driver.specs.Public.Lines.{IsLongAt}
-pub use Rattle.csi_driver.specs.Public.Answering.{AnswersEach}
+use Rattle.csi_streams.specs.Public.LinesOf.{LinesOf, with_newline, and_last, IsShort}
+use Rattle.csi_streams.specs.Public.Lines.{IsLongAt}
+pub use Rattle.csi_streams.specs.Public.Answering.{AnswersEach}
 use Rattle.csi_orchestration.specs.declared.lines_serving.fault.ServedLines.{ServedLines}
 use Rattle.csi_orchestration.specs.declared.lines_serving.fault.LinesServeFault.{LinesServeFault}
 use Rattle.csi_orchestration.specs.declared.lines_serving.fault.LinesServeFaultKind.{LinesServeFaultKind}

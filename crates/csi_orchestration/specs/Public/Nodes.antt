@@ -4,8 +4,8 @@ use Rattle.std.specs.Str.{IsUtf8}
 use Rattle.csi_types.specs.declared.config.NodeSlots.{NodeSlots}
 use Rattle.csi_types.specs.Model.Config.{Config}
 use Rattle.csi_json.specs.Public.Configs.{text_config}
-use Rattle.csi_endings.specs.declared.ending.Ending.{Ending}
-use Rattle.csi_endings.specs.declared.ending.Ending.TheVariants.{NotUtf8, ConfigRefused, Memory}
+use Rattle.csi_streams.specs.declared.ending.Ending.{Ending}
+use Rattle.csi_streams.specs.declared.ending.Ending.TheVariants.{NotUtf8, ConfigRefused, Memory}
 
 -- the ids of a configuration's nodes, in order
 abbrev pub node_ids : List NodeSlots → List (List ℕ)

@@ -6,14 +6,14 @@ use Rattle.csi_stores.specs.declared.counted.Counted.{Counted}
 use Rattle.csi_stores.specs.Public.Counting.{HasRisen}
 use Rattle.csi_stores.specs.Public.Stores.{Store}
 use Rattle.csi_stores.specs.Public.Writing.{WritesFront}
-use Rattle.csi_driver.specs.Public.LinesOf.{with_newline}
+use Rattle.csi_streams.specs.Public.LinesOf.{with_newline}
 use Rattle.csi_orchestrator.specs.Public.Laws.{RestartsAreTold}
 use Rattle.csi_service.specs.declared.orchestrator_unopened.OrchestratorUnopened.{OrchestratorUnopened}
 use Rattle.csi_service.specs.Public.OrchestratorOpening.{HasOrchestrator, IsOrchestratorUnopened, orchestrator_rules}
 use Rattle.csi_service.specs.Public.StoreOpening.{LeavesOpening}
 use Rattle.csi_reports.specs.Public.Responses.{IsOpenedLine}
-use Rattle.csi_endings.specs.declared.ending.Ending.{Ending}
-use Rattle.csi_endings.specs.declared.ending.Ending.TheVariants as endings
+use Rattle.csi_streams.specs.declared.ending.Ending.{Ending}
+use Rattle.csi_streams.specs.declared.ending.Ending.TheVariants as endings
 use Rattle.csi_orchestration.specs.declared.lines_serving.fault.ServedLines.{ServedLines}
 use Rattle.csi_orchestration.specs.declared.lines_serving.fault.LinesServeFault.{LinesServeFault}
 use Rattle.csi_orchestration.specs.declared.orchestrator_responder.OrchestratorResponder.{OrchestratorResponder}

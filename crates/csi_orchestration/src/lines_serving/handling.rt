@@ -1,16 +1,16 @@
 //! A responder over a store, which answers the lines of a stream; those that are there together are committed together.
 ghost use Rattle.std.specs.Prelude.{◌≡◌, ◌++◌, map, true, OnOk, OnErr};
 ghost use Rattle.csi_stores.specs.Public.Part.{part_change};
-ghost use Rattle.csi_driver.specs.Public.Answering.{Adds};
-ghost use Rattle.csi_driver.specs.Public.LinesOf.{with_newline};
-ghost use Rattle.csi_driver.specs.Public.Waiting.{WaitsSame};
+ghost use Rattle.csi_streams.specs.Public.Answering.{Adds};
+ghost use Rattle.csi_streams.specs.Public.LinesOf.{with_newline};
+ghost use Rattle.csi_streams.specs.Public.Waiting.{WaitsSame};
 ghost use Rattle.csi_orchestration.specs.Public.LinesAnswering.{AnswersInRecord};
 ghost use Rattle.csi_orchestration.specs.Private.LinesHandling.{always, IsHandled, Flushes, StopsLine, handler_stopped_by, stopped_by};
 
 use crate::lines_serving::fault::{LinesServeFault, LinesServeFaultKind};
 use crate::responder::{Responder, Unanswered};
-use csi_driver::{AnswerFault, DriveStop, LineHandler, LinesFault, Waiting};
 use csi_stores::{Counted, Keep, Part};
+use csi_streams::{AnswerFault, DriveStop, LineHandler, LinesFault, Waiting};
 use csi_types::NoMemory;
 use std::io::Write;
 

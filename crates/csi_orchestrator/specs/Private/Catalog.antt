@@ -1,7 +1,7 @@
 -- The rows of a catalog, and how its maps belong to them.
 use Rattle.std.specs.Prelude.{◌≡◌, ◌⊎◌, ℕ, ◌+◌, ◌<◌, ◌≤◌, List, length, map, set, nat_eq, Option, Some, None, option_map}
 use Rattle.indexmap.specs.IndexMap.{spare, index_map_len, Updates}
-use Rattle.csi_lists.specs.Public.Places.{IsAt}
+use Rattle.csi_types.specs.Public.Places.{IsAt}
 use Rattle.csi_orchestrator.specs.declared.sending.Outgoing.{Outgoing}
 use Rattle.csi_orchestrator.specs.declared.row.OpenCall.{OpenCall}
 use Rattle.csi_orchestrator.specs.declared.row.Row.{Row}

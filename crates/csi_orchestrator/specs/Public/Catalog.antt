@@ -1,7 +1,7 @@
 -- The rows of a catalog, and how its maps belong to them.
 use Rattle.std.specs.Prelude.{◌≡◌, ℕ, ◌+◌, ◌<◌, ◌≤◌, List, length, map, nat_eq, Option, Some}
 use Rattle.indexmap.specs.IndexMap.{values, get, spare, index_map_len}
-use Rattle.csi_lists.specs.Public.Places.{IsAt}
+use Rattle.csi_types.specs.Public.Places.{IsAt}
 use Rattle.csi_orchestrator.specs.declared.row.OpenCall.{OpenCall}
 use Rattle.csi_orchestrator.specs.declared.row.Row.{Row}
 use Rattle.csi_orchestrator.specs.declared.catalog.Catalog.{Catalog}

@@ -1,6 +1,6 @@
 -- Which row a call of an orchestrator changed. This profile's own.
 use Rattle.std.specs.Prelude.{◌≡◌, ℕ, ◌+◌, ◌<◌, List, length, take, drop, position, Bool, false, Option, Some, None}
-use Rattle.csi_lists.specs.Public.Places.{IsAt}
+use Rattle.csi_types.specs.Public.Places.{IsAt}
 use Rattle.csi_types.specs.declared.number.Number.{Number}
 use Rattle.csi_types.specs.Model.Same.{same_text, same_number}
 use Rattle.csi_orchestrator.specs.declared.fault.Heard.{Heard}

@@ -1,6 +1,6 @@
 -- An orchestrator's record. This profile's own.
 use Rattle.std.specs.Prelude.{◌≡◌, ℕ, ◌≤◌, List, length, false}
-use Rattle.csi_lists.specs.Model.Members.{EachTwo}
+use Rattle.csi_types.specs.Model.Members.{EachTwo}
 use Rattle.csi_types.specs.Model.Same.{same_text}
 use Rattle.csi_orchestrator.specs.declared.fault.OrchRecordFault.{OrchRecordFault}
 use Rattle.csi_orchestrator.specs.declared.fault.OrchRecordFault.TheVariants.{BadNodes, BadRow, NoMemory}

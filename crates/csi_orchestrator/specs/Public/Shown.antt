@@ -1,6 +1,6 @@
 -- What an orchestrator shows of itself, by its rows. This profile's own.
 use Rattle.std.specs.Prelude.{◌≡◌, List, map, false, None}
-use Rattle.csi_lists.specs.Model.Members.{EachTwo}
+use Rattle.csi_types.specs.Model.Members.{EachTwo}
 use Rattle.csi_types.specs.Model.Same.{same_text}
 use Rattle.csi_orchestrator.specs.declared.row.NodeEntry.{NodeEntry}
 use Rattle.csi_orchestrator.specs.declared.row.Row.{Row}

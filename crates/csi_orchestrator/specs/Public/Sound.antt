@@ -1,7 +1,7 @@
 -- The rules of an orchestrator's rows, which its type keeps, and what follows from them. This profile's own.
 use Rattle.std.specs.Prelude.{◌≡◌, ◌≢◌, List, [], ◌∷◌, false, None}
 use Rattle.std.specs.List.{AllByRecursion}
-use Rattle.csi_lists.specs.Model.Members.{EachTwo}
+use Rattle.csi_types.specs.Model.Members.{EachTwo}
 use Rattle.csi_types.specs.Model.Same.{same_text}
 use Rattle.csi_orchestrator.specs.declared.row.TargetEntry.{TargetEntry}
 use Rattle.csi_orchestrator.specs.declared.thing.Known.TheVariants.{No}

@@ -1,7 +1,7 @@
 -- What a row keeps whatever is asked and whatever comes: how its goal, its marks and its entries go together. This profile's own.
 use Rattle.std.specs.Prelude.{◌≡◌, ◌≢◌, ◌⊎◌, ℕ, ◌≤◌, List, [], ◌∷◌, length, find, true, false, ◌||◌, Option, Some, None}
 use Rattle.std.specs.List.{AllByRecursion}
-use Rattle.csi_lists.specs.Model.Members.{EachTwo}
+use Rattle.csi_types.specs.Model.Members.{EachTwo}
 use Rattle.csi_types.specs.declared.capability.Capability.{Capability}
 use Rattle.csi_types.specs.Model.Same.{same_text, has_capability}
 use Rattle.csi_types.specs.Model.Sharing.{is_single_node, are_two_writers, allows_one_target}

@@ -12,8 +12,8 @@ use Rattle.csi_stores.specs.Public.Part.{StoredPart, StoredChange, put_all}
 use Rattle.csi_stores.specs.Public.Stores.{Store}
 use Rattle.csi_service.specs.Public.Opening.{Records, controller_records}
 use Rattle.csi_reports.specs.Public.Rebuildings.{IsRebuildingLine}
-use Rattle.csi_endings.specs.declared.ending.Ending.{Ending}
-use Rattle.csi_endings.specs.declared.ending.Ending.TheVariants as endings
+use Rattle.csi_streams.specs.declared.ending.Ending.{Ending}
+use Rattle.csi_streams.specs.declared.ending.Ending.TheVariants as endings
 use Rattle.csi_plugins.specs.Public.Recovering.{IsUnchanged, IsRecordIn}
 use Rattle.csi_plugins.specs.Public.Rebuilding.{Sources, AreKept, AreSourcesRead, IsRebuiltFrom}
 use Rattle.csi_plugins.specs.Private.Recovering.{IsNew}

@@ -3,8 +3,8 @@ use Rattle.std.specs.Prelude.{◌≡◌, ◌++◌, ℕ, List, Result, Ok, Err, c
 use Rattle.csi_orchestrator.specs.Public.Record.{RecordParts as OrchestratorParts}
 use Rattle.csi_stores.specs.Public.Part.{StoredPart}
 use Rattle.csi_reports.specs.Public.OrchestratorRecords.{IsOrchestratorLine}
-use Rattle.csi_endings.specs.declared.ending.Ending.{Ending}
-use Rattle.csi_endings.specs.declared.ending.Ending.TheVariants as endings
+use Rattle.csi_streams.specs.declared.ending.Ending.{Ending}
+use Rattle.csi_streams.specs.declared.ending.Ending.TheVariants as endings
 use Rattle.csi_plugins.specs.Public.Ending.{EndsAt}
 use Rattle.csi_plugins.specs.Public.Recording.{IsNoneAt}
 

@@ -18,8 +18,8 @@ use Rattle.csi_records.specs.Public.OrchestratorRecords.{kept_parts}
 use Rattle.csi_service.specs.Public.Opening.{Records, controller_records}
 use Rattle.csi_service.specs.Public.Renewed.{any_node_records, IsReadAs}
 use Rattle.csi_reports.specs.Public.Recoveries.{IsRecoveryLine}
-use Rattle.csi_endings.specs.declared.ending.Ending.{Ending}
-use Rattle.csi_endings.specs.declared.ending.Ending.TheVariants as endings
+use Rattle.csi_streams.specs.declared.ending.Ending.{Ending}
+use Rattle.csi_streams.specs.declared.ending.Ending.TheVariants as endings
 use Rattle.csi_plugins.specs.Public.Recovering.{Fate, Stores, IsLeft, IsUnchanged, IsNoRecord, IsRaisedNode, IsRaisedController, IsRecovered}
 
 -- parts as changes

@@ -6,8 +6,8 @@ use Rattle.std.specs.Str.{IsUtf8}
 use Rattle.csi_types.specs.Model.Config.{Config}
 use Rattle.csi_types.specs.Public.Text.{IsNodeId}
 use Rattle.csi_json.specs.Public.Configs.{text_config}
-use Rattle.csi_endings.specs.declared.ending.Ending.{Ending}
-use Rattle.csi_endings.specs.declared.ending.Ending.TheVariants.{NotUtf8, ConfigRefused, Usage, Memory}
+use Rattle.csi_streams.specs.declared.ending.Ending.{Ending}
+use Rattle.csi_streams.specs.declared.ending.Ending.TheVariants.{NotUtf8, ConfigRefused, Usage, Memory}
 use Rattle.csi_plugins.specs.declared.kind.AskedPlugin.{AskedPlugin}
 use Rattle.csi_plugins.specs.declared.kind.AskedPlugin.TheVariants.{Controller, Node}
 

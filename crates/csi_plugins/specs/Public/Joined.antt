@@ -16,7 +16,7 @@ use Rattle.csi_service.specs.Public.Serving.{frames_counted}
 use Rattle.csi_service.specs.Public.Opening.{Records, controller_records, node_records, OpensTo}
 use Rattle.csi_service.specs.Public.NodeOpening.{joined_head}
 use Rattle.csi_service.specs.Public.Services.{ControllerService, controller_service_parts, NodeService, node_service_parts}
-use Rattle.csi_endings.specs.declared.ending.Ending.{Ending}
+use Rattle.csi_streams.specs.declared.ending.Ending.{Ending}
 use Rattle.csi_plugins.specs.declared.kind.AskedPlugin.{AskedPlugin}
 use Rattle.csi_plugins.specs.declared.kind.AskedPlugin.TheVariants.{Controller, Node}
 use Rattle.csi_plugins.specs.Public.Ending.{ending_of_store}

@@ -20,8 +20,8 @@ use Rattle.csi_records.specs.Public.Records.{IsRecordOf}
 use Rattle.csi_service.specs.Public.Opening.{Records, controller_records}
 use Rattle.csi_service.specs.Public.Renewed.{any_node_records}
 use Rattle.csi_reports.specs.Public.Rebuildings.{IsRebuildingLine}
-use Rattle.csi_endings.specs.declared.ending.Ending.{Ending}
-use Rattle.csi_endings.specs.declared.ending.Ending.TheVariants as endings
+use Rattle.csi_streams.specs.declared.ending.Ending.{Ending}
+use Rattle.csi_streams.specs.declared.ending.Ending.TheVariants as endings
 use Rattle.csi_plugins.specs.Public.Recording.{Writer}
 use Rattle.csi_plugins.specs.Public.Recovering.{Fate, AreInTurn, IsLeft, IsUnchanged, IsRecordIn, IsNoRecord, NodeStore}
 use Rattle.csi_plugins.specs.Public.Recovering.Fate.{Changes}

@@ -15,8 +15,8 @@ use Rattle.csi_records.specs.Public.Records.{IsControllerOf, IsNodeOf, IsControl
 use Rattle.csi_records.specs.Public.OrchestratorRecords.{orchestrator_layout, IsOrchestratorOf}
 use Rattle.csi_reports.specs.Public.Records.{controller_entry, node_entry}
 use Rattle.csi_reports.specs.Public.OrchestratorRecords.{IsOrchestratorLine}
-use Rattle.csi_endings.specs.declared.ending.Ending.{Ending}
-use Rattle.csi_endings.specs.declared.ending.Ending.TheVariants as endings
+use Rattle.csi_streams.specs.declared.ending.Ending.{Ending}
+use Rattle.csi_streams.specs.declared.ending.Ending.TheVariants as endings
 
 -- these parts are read as the record of a controller, of a node or of an orchestrator, in some version, and this is its line
 pub data IsLineOf (parts : List StoredPart) : List ℕ → Type 0 where

@@ -23,8 +23,8 @@ use Rattle.csi_service.specs.Public.Opening.{Records, controller_records}
 use Rattle.csi_service.specs.Public.Renewed.{any_node_records, IsUnread, IsRaisedAs}
 use Rattle.csi_service.specs.Public.Services.{controller_view, node_view}
 use Rattle.csi_reports.specs.Public.Recoveries.{IsRecoveryLine}
-use Rattle.csi_endings.specs.declared.ending.Ending.{Ending}
-use Rattle.csi_endings.specs.declared.ending.Ending.TheVariants as endings
+use Rattle.csi_streams.specs.declared.ending.Ending.{Ending}
+use Rattle.csi_streams.specs.declared.ending.Ending.TheVariants as endings
 use Rattle.csi_plugins.specs.Public.Recording.{Writer}
 
 -- ---- what becomes of a store

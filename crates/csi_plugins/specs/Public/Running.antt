@@ -10,8 +10,8 @@ use Rattle.csi_service.specs.Public.Opening.{Records, controller_records, node_r
 use Rattle.csi_service.specs.Public.NodeOpening.{joined_head, IsOfEarlierSession}
 use Rattle.csi_service.specs.Public.Services.{controller_service_parts, node_service_parts}
 use Rattle.csi_service.specs.Public.StoreOpening.{StaysFor}
-use Rattle.csi_endings.specs.declared.ending.Ending.{Ending}
-use Rattle.csi_endings.specs.declared.ending.Ending.TheVariants as endings
+use Rattle.csi_streams.specs.declared.ending.Ending.{Ending}
+use Rattle.csi_streams.specs.declared.ending.Ending.TheVariants as endings
 use Rattle.csi_plugins.specs.declared.kind.AskedPlugin.{AskedPlugin}
 use Rattle.csi_plugins.specs.declared.kind.AskedPlugin.TheVariants.{Controller, Node}
 use Rattle.csi_plugins.specs.Public.Ending.{ending_of_store}

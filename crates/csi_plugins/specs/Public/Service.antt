@@ -9,7 +9,7 @@ use Rattle.csi_service.specs.declared.serving.fault.ServeFault.{ServeFault}
 use Rattle.csi_stores.specs.Public.Counting.{HasRisen}
 use Rattle.csi_stores.specs.Public.Stores.{Store}
 use Rattle.csi_service.specs.Public.Serving.{Setting, Serves}
-use Rattle.csi_endings.specs.declared.ending.Ending.{Ending}
+use Rattle.csi_streams.specs.declared.ending.Ending.{Ending}
 use Rattle.csi_plugins.specs.Public.Ending.{ending_of_serving}
 
 -- a reader and a writer, before and after: what is unread, what is written, and whether they failed meanwhile

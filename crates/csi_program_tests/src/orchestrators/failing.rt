@@ -3,8 +3,8 @@
 use super::script::{Side, WHOLE, lines};
 use super::{answers, count, goes_on, has_after, lives, puts, read_with};
 use crate::devices::{Devices, SOUND, new_store, room};
-use csi_endings::Ending;
 use csi_stores::Left;
+use csi_streams::Ending;
 use std::alloc::Global;
 use std::process::Abort;
 

@@ -4,7 +4,7 @@
 use super::script::{Side, WHOLE, lines};
 use super::{Start, answers, count, goes_on, is_whole, kept, puts};
 use crate::devices::{SOUND, new_store};
-use csi_endings::Ending;
+use csi_streams::Ending;
 use std::alloc::Global;
 use std::process::Abort;
 

@@ -1,7 +1,7 @@
 //! Sessions that are asked for, and replies that tell that the store is an older one.
 use super::{answers, answers_from, has_after, puts};
 use crate::devices::{SOUND, new_store};
-use csi_endings::Ending;
+use csi_streams::Ending;
 use std::alloc::Global;
 use std::process::Abort;
 

@@ -2,8 +2,8 @@
 use Rattle.std.specs.Prelude.{Result, Ok, Err}
 use Rattle.csi_stores.specs.declared.keep.KeepFault.{KeepFault}
 use Rattle.csi_stores.specs.declared.keep.KeepFault.TheVariants as fault
-use Rattle.csi_endings.specs.declared.ending.Ending.{Ending}
-use Rattle.csi_endings.specs.declared.ending.Ending.TheVariants.{Done, Device, Memory}
+use Rattle.csi_streams.specs.declared.ending.Ending.{Ending}
+use Rattle.csi_streams.specs.declared.ending.Ending.TheVariants.{Done, Device, Memory}
 
 -- one that did all, by whether its log could be put back
 abbrev pub ending_done : Result (Unit {0}) KeepFault → Ending

@@ -4,15 +4,15 @@ use Rattle.csi_types.specs.Model.Frame.{Frame}
 use Rattle.csi_stores.specs.declared.counted.Counted.{Counted}
 use Rattle.csi_stores.specs.Public.Part.{StoredPart}
 use Rattle.csi_stores.specs.Public.Stores.{Store}
-use Rattle.csi_driver.specs.declared.driver.DriveStop.{DriveStop}
-use Rattle.csi_driver.specs.declared.driver.DriveStop.TheVariants as stop
-use Rattle.csi_driver.specs.declared.frames.FramesFault.{FramesFault}
-use Rattle.csi_driver.specs.declared.frames.FramesFault.TheVariants as frames_faults
-use Rattle.csi_driver.specs.declared.waiting.AnswerFault.{AnswerFault}
-use Rattle.csi_driver.specs.declared.waiting.AnswerFault.TheVariants as why
-use Rattle.csi_driver.specs.Public.State.{State}
-use Rattle.csi_driver.specs.Public.Waiting.{Settling, Settles}
-use Rattle.csi_driver.specs.Public.Answering.{IsAnswered}
+use Rattle.csi_streams.specs.declared.driver.DriveStop.{DriveStop}
+use Rattle.csi_streams.specs.declared.driver.DriveStop.TheVariants as stop
+use Rattle.csi_streams.specs.declared.frames.FramesFault.{FramesFault}
+use Rattle.csi_streams.specs.declared.frames.FramesFault.TheVariants as frames_faults
+use Rattle.csi_streams.specs.declared.waiting.AnswerFault.{AnswerFault}
+use Rattle.csi_streams.specs.declared.waiting.AnswerFault.TheVariants as why
+use Rattle.csi_streams.specs.Public.State.{State}
+use Rattle.csi_streams.specs.Public.Waiting.{Settling, Settles}
+use Rattle.csi_streams.specs.Public.Answering.{IsAnswered}
 use Rattle.csi_service.specs.declared.serving.fault.ServeFaultKind.{ServeFaultKind}
 use Rattle.csi_service.specs.declared.serving.fault.ServeFaultKind.TheVariants as kinds
 use Rattle.csi_service.specs.declared.serving.handling.CoreHandler.{CoreHandler}

@@ -1,7 +1,7 @@
 -- A plugin that is served, whichever it is: the parts of its record, what an answer changed of them, and how it answers. This profile's own.
 use Rattle.std.specs.Prelude.{◌≡◌, ◌≢◌, ◌⊎◌, ◌≤◌, ◌<◌, ◌^◌, ◌==◌, ℕ, Bool, true, if◌then◌else◌, List, [], ◌∷◌, ◌++◌, map, find, slice_get, Option, Some, None, option_map, option_to_list, IfSome}
 use Rattle.std.specs.List.{AllByRecursion}
-use Rattle.csi_lists.specs.Model.Members.{IsAmong}
+use Rattle.csi_types.specs.Model.Members.{IsAmong}
 use Rattle.csi_types.specs.declared.number.Number.{Number}
 use Rattle.csi_types.specs.Model.Frame.{Frame}
 use Rattle.csi_fence.specs.Model.Fenced.{Machine, fenced}

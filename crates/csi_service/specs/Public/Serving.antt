@@ -7,8 +7,8 @@ use Rattle.csi_frames.specs.declared.fault.FaultKind.TheVariants.{Short}
 use Rattle.csi_frames.specs.Public.Spelling.{spelling}
 use Rattle.csi_frames.specs.Public.Fault.{IsFaulty}
 use Rattle.csi_frames.specs.Public.Stream.{FramesOf}
-use Rattle.csi_driver.specs.Public.Frames.{IsFaultOf}
-pub use Rattle.csi_driver.specs.Public.Answering.{AnswersEach}
+use Rattle.csi_streams.specs.Public.Frames.{IsFaultOf}
+pub use Rattle.csi_streams.specs.Public.Answering.{AnswersEach}
 use Rattle.csi_service.specs.declared.serving.fault.Served.{Served}
 use Rattle.csi_service.specs.declared.serving.fault.ServeFault.{ServeFault}
 use Rattle.csi_service.specs.declared.serving.fault.ServeFaultKind.{ServeFaultKind}

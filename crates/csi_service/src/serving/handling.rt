@@ -2,17 +2,17 @@
 ghost use Rattle.std.specs.Prelude.{◌≡◌, ◌++◌, map, is_some, OnOk, OnErr};
 ghost use Rattle.csi_frames.specs.Public.Lent.{lent_frame};
 ghost use Rattle.csi_stores.specs.Public.Part.{part_change};
-ghost use Rattle.csi_driver.specs.Public.Answering.{Adds};
-ghost use Rattle.csi_driver.specs.Public.Waiting.{WaitsSame, StopsAt};
+ghost use Rattle.csi_streams.specs.Public.Answering.{Adds};
+ghost use Rattle.csi_streams.specs.Public.Waiting.{WaitsSame, StopsAt};
 ghost use Rattle.csi_service.specs.Public.Answering.{AnswersInRecord};
 ghost use Rattle.csi_service.specs.Public.Serving.{reply_bytes};
 ghost use Rattle.csi_service.specs.Private.Handling.{waiting_of, IsHandled, Flushes, stopped_by};
 
 use crate::plugin_core::Core;
 use crate::serving::fault::{ServeFault, ServeFaultKind};
-use csi_driver::{AnswerFault, DriveStop, FrameHandler, FramesFault, Waiting};
 use csi_frames::FrameRef;
 use csi_stores::{Counted, Keep, Part};
+use csi_streams::{AnswerFault, DriveStop, FrameHandler, FramesFault, Waiting};
 use csi_types::NoMemory;
 use std::io::Write;
 

@@ -6,14 +6,14 @@ use Rattle.csi_types.specs.Model.Frame.{Frame}
 use Rattle.csi_frames.specs.Public.Spelling.{spelling}
 use Rattle.csi_stores.specs.Public.Counting.{HasRisen}
 use Rattle.csi_stores.specs.Public.Writing.{WritesFront}
-use Rattle.csi_driver.specs.declared.driver.DriveStop.{DriveStop}
-use Rattle.csi_driver.specs.declared.driver.DriveStop.TheVariants as stop
-use Rattle.csi_driver.specs.declared.frames.FramesFault.{FramesFault}
-use Rattle.csi_driver.specs.declared.frames.FramesFault.TheVariants as frames_faults
-use Rattle.csi_driver.specs.Public.Frames.{IsFaultOf}
+use Rattle.csi_streams.specs.declared.driver.DriveStop.{DriveStop}
+use Rattle.csi_streams.specs.declared.driver.DriveStop.TheVariants as stop
+use Rattle.csi_streams.specs.declared.frames.FramesFault.{FramesFault}
+use Rattle.csi_streams.specs.declared.frames.FramesFault.TheVariants as frames_faults
+use Rattle.csi_streams.specs.Public.Frames.{IsFaultOf}
 use Rattle.csi_types.specs.declared.memory.NoMemory.{NoMemory}
-use Rattle.csi_streams.specs.declared.answers.AnswerFault.{AnswerFault}
-use Rattle.csi_streams.specs.declared.answers.AnswerFault.TheVariants as faults
+use Rattle.csi_streams.specs.declared.answers.SliceFault.{SliceFault}
+use Rattle.csi_streams.specs.declared.answers.SliceFault.TheVariants as faults
 use Rattle.csi_streams.specs.declared.streaming.StreamFault.{StreamFault}
 use Rattle.csi_streams.specs.declared.streaming.StreamFault.TheVariants as stops
 use Rattle.csi_streams.specs.declared.giving.GivingFault.{GivingFault}
@@ -57,7 +57,7 @@ stream_fault (stop.Consumer (frames_faults.Handler givings.Output)) = stops.Outp
 -- ---- bytes that are there whole
 
 -- why they aren't handled to their end
-abbrev pub slice_fault : FramesFault NoMemory → AnswerFault
+abbrev pub slice_fault : FramesFault NoMemory → SliceFault
 slice_fault (frames_faults.Frame kind place) = faults.Frame kind place
 slice_fault frames_faults.NoMemory = faults.NoMemory
 slice_fault (frames_faults.Handler refused) = faults.NoMemory
@@ -69,7 +69,7 @@ pub record Adds (gives : List Frame → List ℕ → Type 0) (frames : List Fram
   pub given : gives frames more
 
 -- All frames were handled, and no byte is left over; or the rest is at fault; or memory ran out.
-abbrev pub HandlesWhole : (List Frame → List ℕ → Type 0) → List Frame → List ℕ → List ℕ → List ℕ → Result ℕ AnswerFault → Type 0
+abbrev pub HandlesWhole : (List Frame → List ℕ → Type 0) → List Frame → List ℕ → List ℕ → List ℕ → Result ℕ SliceFault → Type 0
 HandlesWhole gives frames rest before after (Ok count) = (rest ≡ []) × (count ≡ length frames) × Adds gives frames before after
 HandlesWhole gives frames rest before after (Err (faults.Frame kind place)) = IsFaultOf frames rest kind place × Adds gives frames before after
 HandlesWhole gives frames rest before after (Err faults.NoMemory) = (k : ℕ) × (k ≤ length frames) × Adds gives (take k frames) before after

@@ -2,7 +2,7 @@
 use Rattle.std.specs.Prelude.{ℕ, List, ◌∷◌}
 use Rattle.std.specs.List.{flat_map}
 use Rattle.csi_types.specs.Model.Frame.{Frame}
-use Rattle.csi_streams.specs.declared.lines.Lines.{Lines}
+use Rattle.csi_streams.specs.declared.showing.Lines.{Lines}
 
 -- lines are made of any frames
 abbrev pub HasShown : Lines → List Frame → Type 0

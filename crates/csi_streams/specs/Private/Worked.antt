@@ -10,7 +10,7 @@ use Rattle.csi_types.specs.declared.status.Status.TheVariants.{Ok, Unauthenticat
 use Rattle.csi_types.specs.Model.Frame.{Frame}
 use Rattle.csi_types.specs.Model.Replies.{call_frame, reply_frame}
 use Rattle.csi_frames.specs.Public.Spelling.{spelling}
-use Rattle.csi_streams.specs.Public.Lines.{lines}
+use Rattle.csi_streams.specs.Public.FrameLines.{lines}
 
 -- deletes volume 1, and the success of that
 abbrev pub deleting : List Frame

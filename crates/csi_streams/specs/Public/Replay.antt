@@ -8,9 +8,9 @@ use Rattle.csi_types.specs.Model.Frame.{Frame}
 use Rattle.csi_frames.specs.Public.Spelling.{spelling}
 use Rattle.csi_controller.specs.Model.State.{ControllerState, empty_controller}
 use Rattle.csi_controller.specs.Model.Fenced.{fenced}
-use Rattle.csi_driver.specs.Public.Frames.{IsFaultOf}
-use Rattle.csi_streams.specs.declared.answers.AnswerFault.{AnswerFault}
-use Rattle.csi_streams.specs.declared.answers.AnswerFault.TheVariants as faults
+use Rattle.csi_streams.specs.Public.Frames.{IsFaultOf}
+use Rattle.csi_streams.specs.declared.answers.SliceFault.{SliceFault}
+use Rattle.csi_streams.specs.declared.answers.SliceFault.TheVariants as faults
 
 -- the greatest capacity that a call may name, 2^63 - 1, and no nodes
 abbrev pub replay_config : Config
@@ -42,6 +42,6 @@ pub record AppendsAll (text : List Frame → List ℕ) (frames : List Frame) (re
   pub appended : new ≡ old ++ text frames
 
 -- The rest is at fault, and the bytes for all frames before it were appended; or memory ran out.
-abbrev pub Fails : (List Frame → List ℕ) → List Frame → List ℕ → List ℕ → List ℕ → AnswerFault → Type 0
+abbrev pub Fails : (List Frame → List ℕ) → List Frame → List ℕ → List ℕ → List ℕ → SliceFault → Type 0
 Fails text frames rest old new (faults.Frame kind place) = IsFaultOf frames rest kind place × (new ≡ old ++ text frames)
 Fails text frames rest old new faults.NoMemory = AppendsFront text frames old new

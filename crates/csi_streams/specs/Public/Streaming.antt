@@ -4,11 +4,11 @@ use Rattle.std.specs.Io.KnownBytes.{Appends, Consumes, IsAtEnd}
 use Rattle.csi_types.specs.Model.Frame.{Frame}
 use Rattle.csi_frames.specs.declared.fault.FaultKind.TheVariants.{Short}
 use Rattle.csi_frames.specs.Public.Stream.{FramesOf}
-use Rattle.csi_driver.specs.Public.Frames.{IsFaultOf, Waits}
+use Rattle.csi_streams.specs.Public.Frames.{IsFaultOf, Waits}
 use Rattle.csi_streams.specs.declared.streaming.StreamFault.{StreamFault}
 use Rattle.csi_streams.specs.declared.streaming.StreamFault.TheVariants.{Frame as Faulty, NoMemory, Input, Output, Endless}
 use Rattle.csi_streams.specs.Public.Replay.{spelled_replies, Grows}
-use Rattle.csi_streams.specs.Public.Lines.{lines}
+use Rattle.csi_streams.specs.Public.FrameLines.{lines}
 
 -- these are the spellings of a new controller's replies to these frames
 abbrev pub AreReplies : List Frame → List ℕ → Type 0

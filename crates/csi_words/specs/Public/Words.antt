@@ -2,11 +2,11 @@
 use Rattle.std.specs.Prelude.{ℕ, List, [], map, Option, Some, None, option_map, option_and_then, unwrap_or, codes, bytes_eq, if◌then◌else◌, true}
 use Rattle.clap.specs.declared.builder.action.ArgAction.TheVariants.{Append}
 use Rattle.clap.specs.Words.{App, Row, all_of, first_of, new_app, new_rule, subcommand_of, with_rule, with_subcommand}
-use Rattle.csi_endings.specs.declared.command.FileCommand.{FileCommand}
-use Rattle.csi_endings.specs.declared.command.FileCommand.TheVariants.{Answer, Show, Schedule}
-use Rattle.csi_endings.specs.declared.command.ScheduleCommand.TheVariants.{Run, Frames, Draw}
-use Rattle.csi_endings.specs.declared.ending.Ending.{Ending}
-use Rattle.csi_endings.specs.declared.ending.Ending.TheVariants.{Usage, Memory}
+use Rattle.csi_streams.specs.declared.command.FileCommand.{FileCommand}
+use Rattle.csi_streams.specs.declared.command.FileCommand.TheVariants.{Answer, Show, Schedule}
+use Rattle.csi_streams.specs.declared.command.ScheduleCommand.TheVariants.{Run, Frames, Draw}
+use Rattle.csi_streams.specs.declared.ending.Ending.{Ending}
+use Rattle.csi_streams.specs.declared.ending.Ending.TheVariants.{Usage, Memory}
 use Rattle.csi_words.specs.declared.help.Help.{Help as HelpOn}
 use Rattle.csi_words.specs.declared.command_line.CommandLine.{CommandLine}
 use Rattle.csi_words.specs.declared.command_line.MadeOf.{MadeOf}

@@ -3,7 +3,7 @@
 use Rattle.std.specs.Prelude.{◌≡◌, ℕ, List, find, Bool, true, false, ◌&&◌, Option, Some, None, is_some, IsSome}
 use Rattle.csi_types.specs.declared.capability.Capability.{Capability}
 use Rattle.csi_types.specs.declared.holding.Holding.{Holding}
-use Rattle.csi_lists.specs.Model.Members.{IsAmong, EachTwo}
+use Rattle.csi_types.specs.Model.Members.{IsAmong, EachTwo}
 use Rattle.csi_types.specs.Model.Same.{same_text}
 use Rattle.csi_controller.specs.Model.Safe.{AreExclusive}
 use Rattle.csi_controller.specs.Model.State.{Volume, ControllerState, volume_named, live_volume, holding_at}

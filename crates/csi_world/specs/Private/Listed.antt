@@ -1,7 +1,7 @@
 -- What an audit lists of the plugins, as a world of its own, and which worlds are like it. This profile's own.
 use Rattle.std.specs.Prelude.{◌≡◌, ℕ, ◌==◌, List, [], ◌∷◌, ◌++◌, map, filter, find, Bool, false, not, ◌&&◌, ◌||◌, Option, Some, None, if◌then◌else◌}
 use Rattle.std.specs.List.{list_any, list_all, flat_map}
-use Rattle.csi_lists.specs.Public.Places.{AtMostOne}
+use Rattle.csi_types.specs.Public.Places.{AtMostOne}
 use Rattle.csi_types.specs.declared.capability.Capability.{Capability}
 use Rattle.csi_types.specs.Model.Same.{same_text, same_capability}
 use Rattle.csi_controller.specs.declared.row.ControllerRow.{ControllerRow}

@@ -2,7 +2,7 @@
 use Rattle.std.specs.Prelude.{◌≡◌, ℕ, ◌<◌, List, [], filter_map, map, true, Option, Some, None, if◌then◌else◌}
 use Rattle.std.specs.List.{flat_map}
 use Rattle.std.specs.List.Sorted.{IsPermutation}
-use Rattle.csi_lists.specs.Model.Members.{EachTwo, IsAmong}
+use Rattle.csi_types.specs.Model.Members.{EachTwo, IsAmong}
 use Rattle.csi_types.specs.declared.call.Kind.TheVariants.{CreateVolume}
 use Rattle.csi_types.specs.declared.holding.Holding.{Holding}
 use Rattle.csi_types.specs.Model.Capacity.{capacity_wanted}

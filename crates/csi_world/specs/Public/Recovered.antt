@@ -1,6 +1,6 @@
 -- An orchestrator that is made of what its plugins keep, after its own store was lost. This profile's own.
 use Rattle.std.specs.Prelude.{◌≡◌, ℕ, ◌<◌, List, [], ◌∷◌, map, filter, find, Bool, true, false, Option, Some, None, option_map, codes}
-use Rattle.csi_lists.specs.Model.Members.{IsAmong, EachTwo}
+use Rattle.csi_types.specs.Model.Members.{IsAmong, EachTwo}
 use Rattle.csi_types.specs.declared.holding.Holding.{Holding}
 use Rattle.csi_types.specs.declared.capability.Capability.{Capability}
 use Rattle.csi_types.specs.Model.Same.{same_text}

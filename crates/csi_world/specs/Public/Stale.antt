@@ -1,7 +1,7 @@
 -- No open call is stale. This profile's own.
 use Rattle.std.specs.Prelude.{◌≡◌, false}
 use Rattle.csi_types.specs.Model.Frame.{Frame}
-use Rattle.csi_lists.specs.Model.Members.{IsAmong}
+use Rattle.csi_types.specs.Model.Members.{IsAmong}
 use Rattle.csi_orchestrator.specs.Public.Stale.{is_told_stale}
 use Rattle.csi_world.specs.Model.World.{World}
 use Rattle.csi_world.specs.Public.Laws.{HoldsInEveryWorld}

@@ -1,7 +1,7 @@
 //! Everything that holds, by what is listed.
 ghost use Rattle.std.specs.Prelude.{◌≡◌, ◌++◌, ◌↔◌, true, IfOk, OnOk};
 ghost use Rattle.std.specs.List.{flat_map};
-ghost use Rattle.csi_lists.specs.Model.Members.{IsAmong};
+ghost use Rattle.csi_types.specs.Model.Members.{IsAmong};
 ghost use Rattle.csi_controller.specs.Public.Core.{AreRisingRows};
 ghost use Rattle.csi_orchestrator.specs.declared.thing.Thing.{Thing as ThingParts};
 ghost use Rattle.csi_world.specs.Model.World.{World};

@@ -1,5 +1,5 @@
 -- By the rules of each row.
-use Rattle.csi_lists.proofs.Each.{each-weaker}
+use Rattle.csi_types.proofs.Each.{each-weaker}
 use Rattle.csi_controller.specs.Public.Core.{IsSoundRow}
 use Rattle.csi_controller.specs.Public.Exclusive.{IsRowExclusive}
 use Rattle.csi_controller.proofs.Exclusive.{row-exclusive}

@@ -4,7 +4,7 @@ use Rattle.std.specs.Prelude.{find, nat_eq, option_map}
 use Rattle.std.specs.String.{string_bytes}
 use Rattle.std.specs.Cmp.Lexicographic.{pointwise}
 use Rattle.std.proofs.lemmas.List.{map_push}
-use Rattle.csi_lists.proofs.Searches.{find-of_map}
+use Rattle.csi_types.proofs.Searches.{find-of_map}
 use Rattle.csi_types.specs.Model.Same.{same_text}
 use Rattle.csi_fence.proofs.JudgedRows.{one-more}
 use Rattle.csi_controller.specs.declared.row.ControllerRow.{ControllerRow}

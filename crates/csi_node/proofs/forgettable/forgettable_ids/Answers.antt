@@ -1,8 +1,8 @@
 -- A row of a volume that isn't staged is met where there was said to be none.
 use Rattle.std.proofs.Common.{◌≡◌, ◌∙◌, Bool, false, List, is_none, not, ap, get_or, sym, arith}
 use Rattle.std.proofs.lemmas.Bool.{true≢false}
-use Rattle.csi_lists.proofs.Each.{each-place}
-use Rattle.csi_lists.proofs.Members.{all_of, in-map, none_kept}
+use Rattle.csi_types.proofs.Each.{each-place}
+use Rattle.csi_types.proofs.Members.{all_of, in-map, none_kept}
 use Rattle.csi_node.specs.declared.row.NodeRow.{NodeRow}
 use Rattle.csi_node.specs.Model.OneRow.{NodeRowShown, node_row_shown}
 use Rattle.csi_node.specs.Model.Record.{parts}

@@ -3,7 +3,7 @@ use Rattle.std.proofs.Common.{◌∙◌, sym, ap, subst, List}
 use Rattle.csi_stores.specs.declared.keep.KeepFault.{KeepFault}
 use Rattle.csi_stores.specs.declared.part.Part.{Part}
 use Rattle.csi_stores.specs.Public.Part.{all_stored_in}
-use Rattle.csi_endings.specs.declared.ending.Ending.{Ending}
+use Rattle.csi_streams.specs.declared.ending.Ending.{Ending}
 use Rattle.csi_service.specs.Public.Renewed.{any_node_records, IsReadAs, IsUnread}
 use Rattle.csi_plugins.specs.Private.Recovering.{ending_at, changes_of, IsNotRead}
 use Rattle.csi_plugins.proofs.GivenStores.{has-read, not-read}

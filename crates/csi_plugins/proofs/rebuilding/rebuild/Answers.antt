@@ -3,8 +3,8 @@ use Rattle.std.proofs.Common.{sym, ap, subst, inr, refl, map, string_bytes}
 use Rattle.std.specs.Io.KnownBytes.{Appends}
 use Rattle.csi_stores.specs.Public.Part.{part_change}
 use Rattle.csi_stores.specs.Public.Writing.{WritesFront}
-use Rattle.csi_endings.specs.declared.ending.Ending.{Ending}
-use Rattle.csi_endings.specs.declared.ending.Ending.TheVariants as endings
+use Rattle.csi_streams.specs.declared.ending.Ending.{Ending}
+use Rattle.csi_streams.specs.declared.ending.Ending.TheVariants as endings
 use Rattle.csi_plugins.specs.Public.Recording.{written_by}
 use Rattle.csi_plugins.specs.Public.Recovering.Fate.{MayChange, Changes}
 use Rattle.csi_plugins.specs.Public.Rebuilding.{Rebuilds}

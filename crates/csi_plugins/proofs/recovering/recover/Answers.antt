@@ -3,8 +3,8 @@ use Rattle.std.proofs.Common.{◌∙◌, sym, subst, inr, refl, map, length, str
 use Rattle.std.specs.Io.KnownBytes.{Appends}
 use Rattle.std.proofs.lemmas.List.{length-map}
 use Rattle.csi_stores.specs.Public.Writing.{WritesFront}
-use Rattle.csi_endings.specs.declared.ending.Ending.{Ending}
-use Rattle.csi_endings.specs.declared.ending.Ending.TheVariants as endings
+use Rattle.csi_streams.specs.declared.ending.Ending.{Ending}
+use Rattle.csi_streams.specs.declared.ending.Ending.TheVariants as endings
 use Rattle.csi_plugins.specs.Public.Recording.{written_by}
 use Rattle.csi_plugins.specs.Public.Recovering.{AllChange, AreInTurn, Recovers}
 use Rattle.csi_plugins.specs.Private.Recovering.{changes_of}

@@ -1,7 +1,7 @@
 use Rattle.std.proofs.Common.{◌≡◌, ◌++◌, List, ℕ, subst}
 use Rattle.std.specs.Prelude.{OnOk}
 use Rattle.std.proofs.lemmas.Result.{on_ok_weaker}
-use Rattle.csi_lists.proofs.Each.{each-map}
+use Rattle.csi_types.proofs.Each.{each-map}
 use Rattle.csi_orchestrator.specs.Public.Shown.{node_entry_shown}
 use Rattle.csi_records.specs.Public.Spelling.{present}
 use Rattle.csi_records.specs.Public.OrchestratorSpelling.{node_entry_bytes}

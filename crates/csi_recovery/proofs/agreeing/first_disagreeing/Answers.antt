@@ -1,7 +1,7 @@
 -- One more that agrees, or the first that doesn't.
 use Rattle.std.proofs.Common.{take, sym, subst, arith}
 use Rattle.std.specs.List.{AllByRecursion}
-use Rattle.csi_lists.proofs.Each.{each-append_one}
+use Rattle.csi_types.proofs.Each.{each-append_one}
 use Rattle.csi_fence.proofs.JudgedRows.{one-more}
 use Rattle.csi_node.specs.Model.Record.{NodeParts, parts}
 use Rattle.csi_node.specs.Public.Record.{AreSoundRows}

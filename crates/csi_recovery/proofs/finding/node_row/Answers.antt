@@ -1,7 +1,7 @@
 -- At its place.
 use Rattle.std.proofs.Common.{List, sym, ◌∙◌, subst}
 use Rattle.std.specs.Prelude.{◌==◌}
-use Rattle.csi_lists.proofs.Searches.{find-no_place}
+use Rattle.csi_types.proofs.Searches.{find-no_place}
 use Rattle.csi_node.specs.declared.row.NodeRow.{NodeRow}
 use Rattle.csi_node.specs.Model.Record.{parts}
 use Rattle.csi_node.specs.Public.Record.{AreSoundRows}

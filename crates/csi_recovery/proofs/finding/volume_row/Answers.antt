@@ -1,7 +1,7 @@
 -- At its place.
 use Rattle.std.proofs.Common.{sym, ◌∙◌}
 use Rattle.std.specs.Prelude.{◌==◌}
-use Rattle.csi_lists.proofs.Searches.{find-no_place}
+use Rattle.csi_types.proofs.Searches.{find-no_place}
 use Rattle.csi_controller.specs.declared.row.ControllerRow.{ControllerRow}
 use Rattle.csi_controller.proofs.Sound.{two-rise}
 use Rattle.csi_recovery.proofs.Found.{placed-found}

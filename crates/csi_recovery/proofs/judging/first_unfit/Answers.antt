@@ -1,7 +1,7 @@
 -- Step by step.
 use Rattle.std.proofs.Common.{ℕ, sym, ◌∙◌, subst, true≢false, MatchOption, IfNone}
 use Rattle.std.specs.Prelude.{Option}
-use Rattle.csi_lists.proofs.Options.{none-where}
+use Rattle.csi_types.proofs.Options.{none-where}
 use Rattle.std.specs.List.{AllByRecursion}
 use Rattle.csi_node.specs.Model.Record.{NodeParts, parts}
 use Rattle.csi_node.specs.Public.Record.{AreSoundRows}

@@ -1,7 +1,7 @@
 -- Step by step.
 use Rattle.std.proofs.Common.{ℕ, sym, ◌∙◌, subst, true≢false, MatchOption}
 use Rattle.std.specs.Prelude.{Option}
-use Rattle.csi_lists.proofs.Options.{none-where}
+use Rattle.csi_types.proofs.Options.{none-where}
 use Rattle.csi_recovery.specs.Public.Judged.{DoAgree, HaveDistinctNodes, IsFirst}
 use Rattle.csi_recovery.proofs.Judged.{earlier-from, from-earlier}
 use Rattle.csi_recovery.proofs.judging.first_unlike.Goals as goal

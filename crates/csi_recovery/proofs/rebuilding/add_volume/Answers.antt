@@ -1,7 +1,7 @@
 -- Nothing, or its volume.
 use Rattle.std.proofs.Common.{◌∙◌, sym, ap, map}
 use Rattle.std.proofs.lemmas.List.{map_push}
-use Rattle.csi_lists.proofs.Options.{none-where}
+use Rattle.csi_types.proofs.Options.{none-where}
 use Rattle.csi_orchestrator.specs.Public.Shown.{row_shown}
 use Rattle.csi_recovery.specs.Public.Rebuilding.{made_shown}
 use Rattle.csi_recovery.proofs.RebuiltStates.{bare-none, gone-none, there-some}

@@ -2,8 +2,8 @@
 use Rattle.std.proofs.Common.{◌≡◌, ◌+◌, ◌-◌, ◌++◌, ◌∷◌, [], ℕ, List, true, map, take, sym, ◌∙◌, ap, subst, true≢false, arith}
 use Rattle.std.proofs.lemmas.List.{length-map, map_push, take-map, take_all}
 use Rattle.csi_fence.proofs.JudgedRows.{one-more}
-use Rattle.csi_lists.proofs.Each.{each-append_one}
-use Rattle.csi_lists.proofs.Members.{each_of, among-last}
+use Rattle.csi_types.proofs.Each.{each-append_one}
+use Rattle.csi_types.proofs.Members.{each_of, among-last}
 use Rattle.csi_orchestrator.specs.declared.row.Row.{Row}
 use Rattle.csi_orchestrator.specs.Model.Shown.{RowShown}
 use Rattle.csi_orchestrator.specs.Public.Shown.{row_shown}

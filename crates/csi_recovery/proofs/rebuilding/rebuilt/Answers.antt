@@ -1,7 +1,7 @@
 -- By what is ready, and by what the record's own constructor judges of the rows.
 use Rattle.std.proofs.Common.{◌≡◌, ◌+◌, ℕ, List, sym, ◌∙◌, ap, subst}
 use Rattle.std.specs.List.{AllByRecursion}
-use Rattle.csi_lists.proofs.Each.{each-weaker}
+use Rattle.csi_types.proofs.Each.{each-weaker}
 use Rattle.csi_controller.specs.Public.Judging.{AreRecorded}
 use Rattle.csi_controller.specs.Public.Views.{RecordParts}
 use Rattle.csi_orchestrator.specs.Model.Shown.{RowShown}

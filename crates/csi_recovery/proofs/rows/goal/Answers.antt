@@ -1,7 +1,7 @@
 -- What is found of the entries as they are shown is what is found of them.
 use Rattle.std.proofs.Common.{◌≡◌, ◌∙◌, List, map, sym, ap, rules}
 use Rattle.std.specs.Prelude.{Option, Some, None, find, option_map}
-use Rattle.csi_lists.proofs.Searches.{find-of_map}
+use Rattle.csi_types.proofs.Searches.{find-of_map}
 use Rattle.csi_orchestrator.specs.declared.row.Goal.TheVariants.{Stop}
 use Rattle.csi_orchestrator.specs.declared.row.NodeEntry.{NodeEntry}
 use Rattle.csi_orchestrator.specs.Model.Shown.{NodeEntryShown}

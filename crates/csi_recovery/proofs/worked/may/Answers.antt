@@ -2,7 +2,7 @@
 use Rattle.std.proofs.Common.{◌≡◌, ◌≢◌, ◌<◌, List, [], ◌∷◌, false, length, refl, sym, ◌∙◌, ap, subst, inl, inr, ⊎_elim, arith}
 use Rattle.std.specs.Prelude.{codes}
 use Rattle.std.proofs.lemmas.Option.{none-some}
-use Rattle.csi_lists.specs.Model.Members.{IsAmong}
+use Rattle.csi_types.specs.Model.Members.{IsAmong}
 use Rattle.csi_types.specs.declared.holding.Holding.{Holding}
 use Rattle.csi_node.specs.Model.State.{StagedVolume, PublishedVolume}
 use Rattle.csi_orchestrator.specs.declared.row.TargetEntry.{TargetEntry}

@@ -1,7 +1,7 @@
 -- The rows that were lent, put in their places.
 use Rattle.std.proofs.Common.{◌≡◌, List, map, refl, sym, ap, ◌∙◌, subst}
 use Rattle.std.specs.Borrow.{Bor}
-use Rattle.csi_lists.proofs.Maps.{map-twice}
+use Rattle.csi_types.proofs.Maps.{map-twice}
 use Rattle.csi_orchestrator.specs.declared.row.Row.{Row}
 use Rattle.csi_orchestrator.specs.Model.Shown.{RowShown}
 use Rattle.csi_orchestrator.specs.Public.Shown.{row_shown}

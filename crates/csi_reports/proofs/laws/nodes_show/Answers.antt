@@ -3,7 +3,7 @@ use Rattle.std.proofs.Common.{◌≡◌, ◌+◌, List, [], ◌∷◌, ◌++◌,
 use Rattle.std.specs.List.{AllByRecursion}
 use Rattle.std.proofs.lemmas.List.{take_more}
 use Rattle.csi_node.specs.Model.Record.{NodeParts}
-use Rattle.csi_lists.proofs.Each.{each-append_one}
+use Rattle.csi_types.proofs.Each.{each-append_one}
 use Rattle.csi_reports.specs.Private.Laws.{ShowsAState}
 use Rattle.csi_reports.proofs.laws.nodes_show.Goals as goal
 

@@ -2,7 +2,7 @@
 use Rattle.std.proofs.Common.{◌≡◌, ◌≤◌, ◌∙◌, map, length, sym, ap, inl, inr, arith}
 use Rattle.std.proofs.lemmas.Bool.Decides.{nat_tests}
 use Rattle.std.proofs.lemmas.List.{nil_from_length}
-use Rattle.csi_driver.proofs.StoreCalls.{follows-same}
+use Rattle.csi_streams.proofs.StoreCalls.{follows-same}
 use Rattle.csi_stores.specs.Public.Content.{all_changed}
 use Rattle.csi_stores.specs.Public.Part.{part_change}
 use Rattle.csi_service.specs.Public.Plugins.{ServedPlugin, service_parts}

@@ -4,7 +4,7 @@ use Rattle.std.proofs.lemmas.List.{map-append}
 use Rattle.csi_stores.specs.declared.part.Part.{Part}
 use Rattle.csi_stores.specs.Public.Content.{all_changed}
 use Rattle.csi_stores.specs.Public.Part.{StoredChange, part_change}
-use Rattle.csi_driver.proofs.StoreCalls.{all-append}
+use Rattle.csi_streams.proofs.StoreCalls.{all-append}
 use Rattle.csi_service.specs.Public.Plugins.{service_parts}
 use Rattle.csi_service.proofs.renewed.parts_raising.Goals as goal
 

@@ -1,6 +1,6 @@
 use Rattle.std.proofs.Common.{arith}
 use Rattle.csi_streams.proofs.Answered.{answered-none}
-use Rattle.csi_driver.proofs.Streams.{frames_of}
+use Rattle.csi_streams.proofs.Streams.{frames_of}
 use Rattle.std.proofs.Common.{sym}
 use Rattle.csi_streams.proofs.answers.answer.Goals as goal
 

@@ -2,7 +2,7 @@
 use Rattle.std.proofs.Common.{◌∙◌, map, ap, sym, subst}
 use Rattle.std.proofs.lemmas.Result.{IfOk-weaker}
 use Rattle.csi_controller.specs.Model.Core.{ControllerParts, Shows}
-use Rattle.csi_lists.specs.Model.Members.{EachTwo}
+use Rattle.csi_types.specs.Model.Members.{EachTwo}
 use Rattle.csi_controller.specs.Public.Names.{by_text}
 use Rattle.csi_controller.specs.Public.Plan.{controller_parts}
 use Rattle.csi_controller.specs.Public.Views.{attached_holdings, IsHeldBefore, HasHoldingsOf}

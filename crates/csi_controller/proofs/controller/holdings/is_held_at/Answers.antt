@@ -3,7 +3,7 @@ use Rattle.std.proofs.Common.{◌≡◌, ◌∙◌, refl, sym, ap}
 use Rattle.std.specs.Borrow.{Bor}
 use Rattle.std.specs.Option.{option_copied}
 use Rattle.std.specs.Prelude.{Option, Some, None, is_some}
-use Rattle.csi_lists.proofs.Tests.{any-find}
+use Rattle.csi_types.proofs.Tests.{any-find}
 use Rattle.csi_types.specs.Model.Same.{same_text}
 use Rattle.csi_controller.specs.declared.row.NodeHolding.{NodeHolding}
 use Rattle.csi_controller.proofs.controller.holdings.is_held_at.Goals as goal

@@ -1,8 +1,8 @@
 -- A row of a deleted volume that is met is among those that were said to be none.
 use Rattle.std.proofs.Common.{◌≡◌, ◌∙◌, Bool, false, List, not, sym, ap, get_or, arith}
 use Rattle.std.proofs.lemmas.Bool.{true≢false}
-use Rattle.csi_lists.proofs.Each.{each-place}
-use Rattle.csi_lists.proofs.Members.{all_of, none_kept}
+use Rattle.csi_types.proofs.Each.{each-place}
+use Rattle.csi_types.proofs.Members.{all_of, none_kept}
 use Rattle.csi_controller.specs.declared.row.ControllerRow.{ControllerRow}
 use Rattle.csi_controller.proofs.controller.listing.forgettable_ids.Goals as goal
 

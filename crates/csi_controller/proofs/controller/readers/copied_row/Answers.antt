@@ -1,7 +1,7 @@
 -- The row at its place.
 use Rattle.std.proofs.Common.{◌∙◌, Some, None, map, ap, sym, subst}
 use Rattle.std.specs.Prelude.{Option, find, option_map, ◌==◌}
-use Rattle.csi_lists.proofs.Options.{none-from_map, some_is_not_none}
+use Rattle.csi_types.proofs.Options.{none-from_map, some_is_not_none}
 use Rattle.csi_fence.proofs.PlacedRows.{absent-gap}
 use Rattle.csi_controller.specs.declared.row.ControllerRow.{ControllerRow}
 use Rattle.csi_controller.specs.Public.OneRow.{row_shown}

@@ -1,8 +1,8 @@
 -- The row at its place.
 use Rattle.std.proofs.Common.{◌≡◌, ◌∙◌, Bool, cond, map, Some, None, sym, ap, refl}
 use Rattle.std.specs.Prelude.{position}
-use Rattle.csi_lists.proofs.Places.{FirstAt-find, FirstAt-position}
-use Rattle.csi_lists.proofs.Searches.{find-no_place}
+use Rattle.csi_types.proofs.Places.{FirstAt-find, FirstAt-position}
+use Rattle.csi_types.proofs.Searches.{find-no_place}
 use Rattle.csi_types.specs.Model.Same.{same_text}
 use Rattle.csi_controller.specs.declared.row.ControllerRow.{ControllerRow}
 use Rattle.csi_controller.specs.Public.OneRow.{RowShown, row_shown}

@@ -3,7 +3,7 @@ use Rattle.std.specs.Prelude.{count_by, filter}
 use Rattle.std.proofs.lemmas.Bool.{false≢true}
 use Rattle.csi_types.specs.declared.reply.Reply.{Reply}
 use Rattle.csi_types.specs.Public.Lent.{lent_call}
-use Rattle.csi_lists.proofs.Searches.{find-passes}
+use Rattle.csi_types.proofs.Searches.{find-passes}
 use Rattle.csi_fence.specs.Public.Rows.{AreRising, IsGapFor, IsPlaceOf, row_after, rows_shown, staying, stays_in}
 use Rattle.csi_fence.proofs.Answering.{answers-err, answers-ok, kept-same, repeat-fresh}
 use Rattle.csi_fence.proofs.FreshRows.{set-answered, set-carried, set-forgotten, set-kept, set-rising, stands-searched, stands-there}

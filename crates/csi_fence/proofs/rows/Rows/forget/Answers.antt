@@ -1,7 +1,7 @@
 use Rattle.std.proofs.Common.{◌∙◌, map, ap, subst, sym, arith, rules}
 use Rattle.std.specs.Prelude.{count_by}
 use Rattle.std.proofs.lemmas.Fn.{filter_same}
-use Rattle.csi_lists.proofs.Filters.{filter-of_map}
+use Rattle.csi_types.proofs.Filters.{filter-of_map}
 use Rattle.csi_fence.specs.Public.Rows.{stays_in}
 use Rattle.csi_fence.proofs.StayingRows.{count-staying}
 use Rattle.csi_fence.proofs.rows.Rows.forget.Goals as goal

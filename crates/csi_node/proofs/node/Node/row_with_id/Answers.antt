@@ -1,7 +1,7 @@
 -- The row at the place of an id is the one that is found by it.
 use Rattle.std.proofs.Common.{◌∙◌, List, subst, sym}
 use Rattle.std.specs.Prelude.{◌==◌}
-use Rattle.csi_lists.proofs.Searches.{find-no_place}
+use Rattle.csi_types.proofs.Searches.{find-no_place}
 use Rattle.csi_node.specs.declared.row.NodeRow.{NodeRow}
 use Rattle.csi_node.specs.Model.OneRow.{NodeRowShown, node_row_shown}
 use Rattle.csi_node.specs.Model.Record.{parts}

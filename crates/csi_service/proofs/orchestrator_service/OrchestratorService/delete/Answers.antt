@@ -1,6 +1,6 @@
 -- The row of the name is told, unless nothing is sent.
 use Rattle.std.proofs.Common.{◌∙◌, ap, sym}
-use Rattle.csi_lists.proofs.Options.{none-from_is_some}
+use Rattle.csi_types.proofs.Options.{none-from_is_some}
 use Rattle.csi_orchestrator.specs.Public.Changed.{place_by_name}
 use Rattle.csi_service.specs.Public.OrchestratorServices.{ServedOrchestrator}
 use Rattle.csi_service.proofs.OrchestratorChanges.{some-told}

@@ -1,5 +1,5 @@
 -- A refusal is one of what waits.
-use Rattle.csi_driver.proofs.WaitingStops.{stops-at-once}
+use Rattle.csi_streams.proofs.WaitingStops.{stops-at-once}
 use Rattle.csi_orchestration.proofs.LinesProgress.{not-so}
 use Rattle.csi_orchestration.proofs.lines_serving.handling.ResponderHandlerLineHandlerCounted.flush.Goals as goal
 

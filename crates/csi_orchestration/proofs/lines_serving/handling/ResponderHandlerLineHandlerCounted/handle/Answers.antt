@@ -1,6 +1,6 @@
 -- A refusal is one of what waits, or of a line, and then what waits is settled.
 use Rattle.std.proofs.Common.{refl}
-use Rattle.csi_driver.proofs.WaitingStops.{stops-at-once, ends-so}
+use Rattle.csi_streams.proofs.WaitingStops.{stops-at-once, ends-so}
 use Rattle.csi_orchestration.proofs.LinesProgress.{not-so}
 use Rattle.csi_orchestration.proofs.lines_serving.handling.ResponderHandlerLineHandlerCounted.handle.Goals as goal
 

@@ -1,5 +1,5 @@
 -- A refusal is one of what waits.
-use Rattle.csi_driver.proofs.WaitingStops.{stops-at-once}
+use Rattle.csi_streams.proofs.WaitingStops.{stops-at-once}
 use Rattle.csi_service.proofs.serving.handling.CoreHandlerFrameHandlerCounted.flush.Goals as goal
 
 pub returns-in-Err-clause-err : goal.returns-in-Err-clause-err

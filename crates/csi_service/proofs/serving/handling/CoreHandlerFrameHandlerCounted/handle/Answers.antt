@@ -1,6 +1,6 @@
 -- A refusal is one of what waits, or of a frame, and then what waits is settled.
 use Rattle.std.proofs.Common.{refl}
-use Rattle.csi_driver.proofs.WaitingStops.{stops-at-once, ends-so}
+use Rattle.csi_streams.proofs.WaitingStops.{stops-at-once, ends-so}
 use Rattle.csi_service.proofs.serving.handling.CoreHandlerFrameHandlerCounted.handle.Goals as goal
 
 pub returns-in-Err-clause-err : goal.returns-in-Err-clause-err

@@ -1,5 +1,0 @@
-use Rattle.csi_driver.proofs.LineStreams.{lines_of, one_way}
-use Rattle.csi_driver.proofs.laws.lines_law.Goals as goal
-
-pub returns : goal.returns
-returns c = record { some = lines_of; one = one_way }

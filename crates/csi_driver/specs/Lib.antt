@@ -1,2 +1,0 @@
-pub mod Public
-pub mod Private

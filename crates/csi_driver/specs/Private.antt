@@ -1,3 +1,0 @@
-pub mod Framing
-pub mod Lining
-pub mod Looked

@@ -1,0 +1,40 @@
+use Rattle.std.proofs.Common.{refl, Ok, Err}
+use Rattle.csi_streams.specs.declared.lines.Lines.{Lines}
+use Rattle.csi_streams.specs.Public.State.{State}
+use Rattle.csi_streams.specs.Public.Lining.{inner_of_lines}
+use Rattle.csi_streams.proofs.LineReaching.{begun-lines}
+use Rattle.csi_streams.proofs.LineEnding.{rests_at_lines, read_whole, read_stopped}
+use Rattle.csi_streams.proofs.lines.Lines.read.Goals as goal
+
+pub drive-requires-clause-begun : goal.drive-requires-clause-begun
+drive-requires-clause-begun g c =
+    let h = g.H.LineHandler in
+    let first : State (Lines g.row.H.Denot) g.row.S.Denot g.row.O.Denot = record { own = c.args.self.now; store = c.args.store.now; out = c.args.out.now } in
+    begun-lines h.handles h.flushes h.is_flushed first c.requires.buffer c.requires.count c.requires.flushed
+
+pub drive-requires-clause-asks : goal.drive-requires-clause-asks
+drive-requires-clause-asks g c = λ gone read now consumed rests.
+    let h = g.H.LineHandler in
+    let first : State (Lines g.row.H.Denot) g.row.S.Denot g.row.O.Denot = record { own = c.args.self.now; store = c.args.store.now; out = c.args.out.now } in
+    c.requires.asks gone read (inner_of_lines now) consumed (rests_at_lines h.handles h.flushes h.is_flushed h.stops first read now rests)
+
+pub returns-in-Ok-end-clause-reads : goal.returns-in-Ok-end-clause-reads
+returns-in-Ok-end-clause-reads g c =
+    let h = g.H.LineHandler in
+    let first : State (Lines g.row.H.Denot) g.row.S.Denot g.row.O.Denot = record { own = c.args.self.now; store = c.args.store.now; out = c.args.out.now } in
+    read_whole h.handles h.flushes h.is_flushed h.stops first (record { own = c.drive.new.consumer; store = c.drive.new.store; out = c.drive.new.out }) (record { own = c.end.new.self; store = c.end.new.store; out = c.end.new.out }) _
+    (g.R.Source.remaining c.args.reader.now) (g.R.Source.remaining c.drive.new.reader) tt (Ok tt) c.in-Ok.ensures.drives refl c.in-Ok-end.ensures
+
+pub returns-in-Err-end-clause-reads : goal.returns-in-Err-end-clause-reads
+returns-in-Err-end-clause-reads g c =
+    let h = g.H.LineHandler in
+    let first : State (Lines g.row.H.Denot) g.row.S.Denot g.row.O.Denot = record { own = c.args.self.now; store = c.args.store.now; out = c.args.out.now } in
+    read_whole h.handles h.flushes h.is_flushed h.stops first (record { own = c.drive.new.consumer; store = c.drive.new.store; out = c.drive.new.out }) (record { own = c.end.new.self; store = c.end.new.store; out = c.end.new.out }) _
+    (g.R.Source.remaining c.args.reader.now) (g.R.Source.remaining c.drive.new.reader) tt (Err c.in-Err-end.fault) c.in-Ok.ensures.drives refl c.in-Err-end.ensures
+
+pub returns-in-Err-clause-reads : goal.returns-in-Err-clause-reads
+returns-in-Err-clause-reads g c =
+    let h = g.H.LineHandler in
+    let first : State (Lines g.row.H.Denot) g.row.S.Denot g.row.O.Denot = record { own = c.args.self.now; store = c.args.store.now; out = c.args.out.now } in
+    read_stopped h.handles h.flushes h.is_flushed h.stops first (record { own = c.drive.new.consumer; store = c.drive.new.store; out = c.drive.new.out }) (g.R.Source.remaining c.args.reader.now) (g.R.Source.remaining c.drive.new.reader)
+    c.in-Err.stop c.in-Err.ensures.drives
