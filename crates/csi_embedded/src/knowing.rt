@@ -13,7 +13,7 @@ use csi_orchestrator::{Goal, Known, Orchestrator, Thing};
 use csi_types::{Name, NoMemory};
 use std::alloc::Global;
 
-// The number of what is known.
+// The number that a caller in C gets of what is known.
 fn number_of(known: Known) -> u32
     ensures { result ≡ known_byte known }
 {

@@ -101,7 +101,7 @@ pub trait Table: Drop {
         ensures allowed { IsAllowed (plan.party (fixed self.now)) (ReplyBody (kind_of (lent_call call.now)) (told_by result).reply) }
         ensures plain { (told_by result).reply.status ≡ Status.Ok → (told_by result).reply.detail ≡ [] };
 
-    /// Makes the call's change to the row, which the table has so. An `Err` changes nothing.
+    /// Makes the change to the row that the table has for the call. An `Err` changes nothing.
     fn change(
         &mut self,
         row: &mut Self::Row,

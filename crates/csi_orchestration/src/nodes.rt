@@ -8,7 +8,7 @@ use csi_streams::Ending;
 use csi_types::{Config, NoMemory, NodeId, NodeSlots};
 use std::alloc::Global;
 
-// The ids of these nodes, in order.
+// The ids of a configuration's nodes, in order.
 fn ids_of(alloc: Global, nodes: &[NodeSlots]) -> Result<Vec<NodeId>, NoMemory>
     ensures { IfOk result (λ ids. ids.items ≡ node_ids nodes.now) }
 {

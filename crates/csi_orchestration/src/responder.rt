@@ -80,7 +80,7 @@ pub trait Responder: Drop {
         ensures changes { IfOk result (λ parts. map part_change parts.items ≡ changes self.now) }
         ensures fit { OnOk result (is_fit_change self.now) };
 
-    /// A law, and nothing that runs: where all in it is within its limits its parts are those of a record.
+    /// A law, and nothing that runs: where all in a responder is within its limits its parts are those of a record.
     fn record_law(&self)
         ensures { is_fit self.now → AreRecord spells (parts_of self.now) };
 }

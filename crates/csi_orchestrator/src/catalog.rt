@@ -34,7 +34,7 @@ impl Drop for Catalog {
 }
 
 impl Catalog {
-    /// No rows. It takes no memory.
+    /// A catalog without volumes. It takes no memory.
     pub fn new(alloc: Global) -> Catalog
         ensures rows { rows_of result ≡ [] }
         ensures indexed { IsIndexed result }

@@ -79,7 +79,7 @@ fn flag_text(readonly: bool) -> &'static str
     if readonly { "ro" } else { "rw" }
 }
 
-// The id of a reply, or 0.
+// The id of a reply as `show` prints it, or 0.
 fn id_number(id: Option<VolumeId>) -> u64
     ensures { result ≡ shown_id id }
 {

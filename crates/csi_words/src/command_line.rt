@@ -282,7 +282,7 @@ fn record<'a>(matches: &ArgMatches<'a>) -> Option<CommandLine<'a>>
     Some(CommandLine::Record(store))
 }
 
-// The same texts again.
+// Words of a command line, copied.
 fn copied_texts<'a>(alloc: Global, found: &[&'a str]) -> Result<Vec<&'a str>, AllocError>
     ensures { IfOk result (λ texts. map (λ text. text.now) texts.items ≡ map (λ text. text.now) found.now) }
 {

@@ -195,7 +195,7 @@ pub fn find_at(
     SqliteKeep::find(rt.alloc(), files)
 }
 
-// Whether a database lists anything but the table `parts`; the database is let go.
+// Whether a database, which may be a store, lists anything but the table `parts`; it is let go.
 fn listed_other<S: Alter + Drop>(connection: Connection<S>) -> bool
     ensures { IsTrue result ↔ ListsOther (state S.Store connection).now.schema }
 {
