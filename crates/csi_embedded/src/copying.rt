@@ -24,7 +24,12 @@ pub(crate) fn copy(bytes: &[u8], room: &mut [u8], written: &mut usize) -> Result
 }
 
 /// Copies a part: its key, and its value, if it has one; without one it is taken out.
-pub(crate) fn copy_part(part: &Part, key: &mut u64, value: &mut [u8], written: &mut usize) -> CallEnding
+pub(crate) fn copy_part(
+    part: &Part,
+    key: &mut u64,
+    value: &mut [u8],
+    written: &mut usize,
+) -> CallEnding
     ensures { TellsChange (part_change part.now) key.new (length value.old) written.new (take written.new value.new) result }
 {
     *key = part.key;

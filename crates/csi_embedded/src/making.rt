@@ -74,7 +74,10 @@ pub(crate) fn ending_of(stop: RecordStop) -> CallEnding
 }
 
 /// The controller under the configuration that these bytes say, which has no volume. The store has to be given its record.
-pub(crate) fn new_controller(alloc: Global, config: &[u8]) -> Result<(Embedded, CallEnding), CallEnding>
+pub(crate) fn new_controller(
+    alloc: Global,
+    config: &[u8],
+) -> Result<(Embedded, CallEnding), CallEnding>
     ensures made { IfOk result (λ made. IsNewController config.now made.0 × EndsDone made.1) }
     ensures refused { IfErr result (IsNoConfig config.now) }
 {
@@ -88,7 +91,11 @@ pub(crate) fn new_controller(alloc: Global, config: &[u8]) -> Result<(Embedded, 
 }
 
 /// The node of this id that joins with this session, which has no volume. The store has to be given its record.
-pub(crate) fn new_node(alloc: Global, id: &[u8], session: u64) -> Result<(Embedded, CallEnding), CallEnding>
+pub(crate) fn new_node(
+    alloc: Global,
+    id: &[u8],
+    session: u64,
+) -> Result<(Embedded, CallEnding), CallEnding>
     ensures made { IfOk result (λ made. IsNewNode id.now session made.0 × EndsDone made.1) }
     ensures refused { IfErr result (IsNoId id.now) }
 {
@@ -148,5 +155,8 @@ pub(crate) fn read_node(
     }
     let (changed, ending) = renewal(alloc, &kept, version)?;
     let service = NodeService::from_record(alloc, kept)?;
-    Ok((Embedded::new(alloc, HeldPlugin::Node(service), changed), ending))
+    Ok((
+        Embedded::new(alloc, HeldPlugin::Node(service), changed),
+        ending,
+    ))
 }

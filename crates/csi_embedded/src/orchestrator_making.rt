@@ -55,7 +55,10 @@ pub(crate) fn embedded(alloc: Global, service: OrchestratorService) -> Result<Em
 }
 
 /// The orchestrator of the configuration's nodes that did nothing, in session 1. The store has to be given its record.
-pub(crate) fn new_orchestrator(alloc: Global, config: &[u8]) -> Result<(Embedded, CallEnding), CallEnding>
+pub(crate) fn new_orchestrator(
+    alloc: Global,
+    config: &[u8],
+) -> Result<(Embedded, CallEnding), CallEnding>
     ensures made { IfOk result (λ made. IsNewOrchestrator config.now made.0 × EndsDone made.1) }
     ensures refused { IfErr result (IsNoOrchestrator config.now) }
 {
@@ -100,7 +103,11 @@ fn record_if_any(alloc: Global, bytes: &[u8]) -> Result<OrchestratorRecord, Call
 }
 
 // The orchestrator of a record, after a restart with these nodes.
-fn reopened(alloc: Global, kept: OrchestratorRecord, nodes: Vec<NodeId>) -> Result<Embedded, CallEnding>
+fn reopened(
+    alloc: Global,
+    kept: OrchestratorRecord,
+    nodes: Vec<NodeId>,
+) -> Result<Embedded, CallEnding>
     ensures made { IfOk result (IsReopened kept nodes.items) }
     ensures refused { IfErr result (IsNotReopened kept nodes.items) }
 {

@@ -144,7 +144,10 @@ fn create_at<'a>(fields: &mut Fields<'a>, version: Version) -> Result<CallRef<'a
 
 #[inline(always)]
 #[tactic(auto, unfolding(crate::specs::Public::Reading::call_at, crate::specs::Public::Reading::publish_at))]
-fn controller_publish_at<'a>(fields: &mut Fields<'a>, version: Version) -> Result<CallRef<'a>, FieldStop>
+fn controller_publish_at<'a>(
+    fields: &mut Fields<'a>,
+    version: Version,
+) -> Result<CallRef<'a>, FieldStop>
     ensures { Gives lent_call result fields.new (call_at version Kind.ControllerPublishVolume fields.old.bytes.now) }
 {
     let id = id_at(fields)?;

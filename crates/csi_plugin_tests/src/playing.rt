@@ -140,7 +140,11 @@ pub(crate) fn answers<P: PlayedPlugin>(
 }
 
 /// The plugin answers these calls so, one after another.
-pub(crate) fn plays<P: PlayedPlugin>(rt: &(impl Abort + AllocGlobal), plugin: &mut P, steps: &[Step]) {
+pub(crate) fn plays<P: PlayedPlugin>(
+    rt: &(impl Abort + AllocGlobal),
+    plugin: &mut P,
+    steps: &[Step],
+) {
     for (call, ask, told) in steps {
         answers(rt, plugin, number(*call), *ask, *told);
     }
@@ -165,7 +169,11 @@ pub(crate) fn has_left<P: PlayedPlugin>(rt: &impl Abort, plugin: &P, left: Left)
 }
 
 /// The plugin answers these calls so, one after another, and each leaves this.
-pub(crate) fn all_come<P: PlayedPlugin>(rt: &(impl Abort + AllocGlobal), plugin: &mut P, lines: &[Line]) {
+pub(crate) fn all_come<P: PlayedPlugin>(
+    rt: &(impl Abort + AllocGlobal),
+    plugin: &mut P,
+    lines: &[Line],
+) {
     for ((session, call), ask, told, left) in lines {
         let number = Number {
             session: *session,

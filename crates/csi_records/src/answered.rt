@@ -100,7 +100,11 @@ fn head_in(alloc: Global, version: RecordVersion, value: &[u8]) -> Result<NodeHe
 }
 
 /// What this part, a head of this version, tells.
-pub(crate) fn head_of(alloc: Global, version: RecordVersion, part: &Part) -> Result<NodeHead, ValueStop>
+pub(crate) fn head_of(
+    alloc: Global,
+    version: RecordVersion,
+    part: &Part,
+) -> Result<NodeHead, ValueStop>
     ensures head { IfOk result (λ head. IsHead IsNodeId version (record { own = head.id; session = head.session })
         × (node_head version head.id head.session ≡ stored_in part.now)) }
     ensures bad { IsErrOf result ValueStop.Bad → (head : Head (List ℕ)) → IsHead IsNodeId version head →

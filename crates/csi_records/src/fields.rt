@@ -13,12 +13,19 @@ pub(crate) fn tag(fields: &mut Fields<'_>, n: u8) -> Result<(), ValueStop>
     ensures bad { OnErr result (read_tag n fields.old.bytes.now ≡ None) }
 {
     let byte = fields.any_byte()?;
-    if byte == n { Ok(()) } else { Err(ValueStop::Bad) }
+    if byte == n {
+        Ok(())
+    } else {
+        Err(ValueStop::Bad)
+    }
 }
 
 /// The greatest session that came, where the version has it.
 #[tactic(auto, unfolding(crate::specs::Private::Reading::read_session, crate::specs::Private::Reading::read_word))]
-pub(crate) fn session(fields: &mut Fields<'_>, version: RecordVersion) -> Result<Option<u64>, ValueStop>
+pub(crate) fn session(
+    fields: &mut Fields<'_>,
+    version: RecordVersion,
+) -> Result<Option<u64>, ValueStop>
     ensures read { IfOk result (λ session. read_session version fields.old.bytes.now ≡ Some (session, fields.new.bytes.now)) }
     ensures bad { OnErr result (read_session version fields.old.bytes.now ≡ None) }
 {

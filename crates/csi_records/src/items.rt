@@ -27,7 +27,11 @@ pub(crate) trait Item: Drop {
     /// One is within its limits.
     ghost is_item: { RecordVersion → Self → Type 0 };
 
-    fn read(fields: &mut Fields<'_>, alloc: Global, version: RecordVersion) -> Result<Self, ValueStop>
+    fn read(
+        fields: &mut Fields<'_>,
+        alloc: Global,
+        version: RecordVersion,
+    ) -> Result<Self, ValueStop>
         ensures read { IfOk result (λ item. item_in version fields.old.bytes.now ≡ Some (item, fields.new.bytes.now)) }
         ensures bad { IsErrOf result ValueStop.Bad → item_in version fields.old.bytes.now ≡ None };
 

@@ -52,7 +52,11 @@ pub(crate) struct OrchestratorHead {
 
 // What the head tells of which this is the whole value, in this version.
 #[tactic(auto, unfolding(crate::specs::Private::Reading::read_whole, crate::specs::Private::OrchestratorReading::read_orchestrator_head, crate::specs::Private::Reading::read_word))]
-fn head_in(alloc: Global, version: RecordVersion, value: &[u8]) -> Result<OrchestratorHead, ValueStop>
+fn head_in(
+    alloc: Global,
+    version: RecordVersion,
+    value: &[u8],
+) -> Result<OrchestratorHead, ValueStop>
     ensures read { IfOk result (λ head. read_whole version (read_orchestrator_head version) value.now
         ≡ Some (record { session = head.session; nodes = head.nodes.items })) }
     ensures bad { IsErrOf result ValueStop.Bad → read_whole version (read_orchestrator_head version) value.now ≡ None }

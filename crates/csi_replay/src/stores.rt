@@ -63,7 +63,10 @@ fn serve_from(rt: &HostRuntime, path: &str, asked: Asked) -> Ending {
 }
 
 /// The controller plugin under the configuration in this file.
-pub(crate) fn controller_of(rt: &(impl Files + AllocGlobal), path: &str) -> Result<AskedPlugin, Ending> {
+pub(crate) fn controller_of(
+    rt: &(impl Files + AllocGlobal),
+    path: &str,
+) -> Result<AskedPlugin, Ending> {
     match fs::read(rt, path) {
         Ok(input) => AskedPlugin::of_config(rt.alloc(), input.as_slice()),
         Err(error) => Err(Ending::of_device(error.kind())),

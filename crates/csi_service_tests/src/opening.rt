@@ -70,7 +70,12 @@ fn a_store_has_version_3_when_it_is_opened(rt: HostRuntime) {
 
 // What a store has, a session that is raised in it, and what it has then: the head has the session where that is later, and empty rows are gone.
 const RAISED: &[(PluginKind, Content, u64, Content)] = &[
-    (PluginKind::Controller, PLAYED, 2, (IN_SESSION_2, &[], OTHER)),
+    (
+        PluginKind::Controller,
+        PLAYED,
+        2,
+        (IN_SESSION_2, &[], OTHER),
+    ),
     (PluginKind::Controller, PLAYED, 1, PLAYED),
     (
         PluginKind::Node,

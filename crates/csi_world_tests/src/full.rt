@@ -39,7 +39,12 @@ fn full_config(rt: &(impl Abort + AllocGlobal)) -> Config {
 }
 
 // This happens to a volume, which then comes to rest.
-fn push_and_settle(rt: &(impl Abort + AllocGlobal), events: &mut Vec<Event>, event: Event, volume: u64) {
+fn push_and_settle(
+    rt: &(impl Abort + AllocGlobal),
+    events: &mut Vec<Event>,
+    event: Event,
+    volume: u64,
+) {
     events.push(event).expect(rt, "room");
     events
         .push(Event::Settle(name_of(rt, volume)))

@@ -107,7 +107,8 @@ pub(crate) fn stopped(stop: DriveStop<FramesFault<AnswerFault>>, frames: u64) ->
         DriveStop::Endless => ServeFaultKind::Endless,
         DriveStop::Consumer(FramesFault::Frame(kind, place)) => ServeFaultKind::Frame(kind, place),
         DriveStop::Consumer(FramesFault::NoMemory) => ServeFaultKind::NoMemory,
-        DriveStop::Consumer(FramesFault::Handler(AnswerFault::NoMemory)) => ServeFaultKind::NoMemory,
+        DriveStop::Consumer(FramesFault::Handler(AnswerFault::NoMemory)) =>
+            ServeFaultKind::NoMemory,
         DriveStop::Consumer(FramesFault::Handler(AnswerFault::Keep(fault))) => ServeFaultKind::Keep(
             fault,
         ),
