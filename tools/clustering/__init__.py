@@ -2,4 +2,4 @@
 import os
 import sys
 
-sys.path.insert(0, f"{os.path.dirname(os.path.dirname(os.path.realpath(__file__)))}/operator")  # where `auditing` is
+sys.path.insert(0, f"{os.path.dirname(os.path.dirname(os.path.realpath(__file__)))}/operate")  # where `auditing` is

@@ -106,7 +106,7 @@ def audited(box, nodes=("n1",)):
         status, out, error = box.replay("record", box.at(store))
         wanted(f"record of {store}", (status, error), (0, b""))
         lines.append(out)
-    ran = subprocess.run([sys.executable, f"{TOP}/tools/operator/audit"], input=b"".join(lines), capture_output=True, timeout=LIMIT, check=False)
+    ran = subprocess.run([sys.executable, f"{TOP}/tools/operate/audit"], input=b"".join(lines), capture_output=True, timeout=LIMIT, check=False)
     wanted("the audit", (ran.returncode, ran.stderr), (0, b""))
     return json.loads(lines[0])["volumes"]
 

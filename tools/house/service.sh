@@ -25,7 +25,7 @@ service_environment() {
     fi
 }
 
-# Writes to the folder $1 of each program that follows which files of sources it is made of, each with its package: for tools/operator/packaging/parties. It
+# Writes to the folder $1 of each program that follows which files of sources it is made of, each with its package: for tools/operate/packaging/parties. It
 # is run in the tree.
 service_linked() {
     local folder="$1" it each='{{$it := .}}'

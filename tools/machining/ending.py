@@ -65,7 +65,7 @@ def exported(system, role):
 
 
 def judged(system, program):
-    """What is wrong with the records, by tools/operator/audit, and with what is really there; and with how programs ended."""
+    """What is wrong with the records, by tools/operate/audit, and with what is really there; and with how programs ended."""
     lines = {}
     for name, path in [*((role, exported(system, role)) for role in PREFIX), *((it, system.at(it, "node.db")) for it in NODES)]:
         came = subprocess.run([program, "record", path], capture_output=True, text=True, check=False)
@@ -74,7 +74,7 @@ def judged(system, program):
         lines[name] = came.stdout
     with open(system.at("records"), "w", encoding="utf-8") as file:
         file.write("".join(lines.values()))
-    audit = subprocess.run([f"{system.top}/tools/operator/audit", system.at("records")], capture_output=True, text=True, check=False)
+    audit = subprocess.run([f"{system.top}/tools/operate/audit", system.at("records")], capture_output=True, text=True, check=False)
     found = []
     if audit.returncode == 1:
         found += [f"audit: {it}" for it in audit.stdout.splitlines()]

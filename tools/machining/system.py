@@ -71,10 +71,10 @@ class System:
         """Makes certificates anew, for 90 days or so many seconds: of orchestrator and controller also those as who they are etcd's clients."""
         names = [*names, *(f"etcd/{it}" for it in names if it in PREFIX)]
         words = ["--seconds", str(seconds)] if seconds is not None else []
-        words = [f"{self.top}/tools/operator/certificates", *words, self.at("certificates"), SET, *names]
+        words = [f"{self.top}/tools/operate/certificates", *words, self.at("certificates"), SET, *names]
         came = subprocess.run(words, capture_output=True, text=True, check=False)
         if came.returncode:
-            raise OSError(f"tools/operator/certificates: {came.stderr}")
+            raise OSError(f"tools/operate/certificates: {came.stderr}")
 
     def files(self, name, ca="authorities"):
         folder = self.at("certificates", name.replace("/", "-"))

@@ -2,7 +2,7 @@
 import os
 import sys
 
-sys.path.insert(0, f"{os.path.dirname(os.path.dirname(os.path.realpath(__file__)))}/operator")  # where `auditing` is
+sys.path.insert(0, f"{os.path.dirname(os.path.dirname(os.path.realpath(__file__)))}/operate")  # where `auditing` is
 
 from . import (  # noqa: E402
     changes,

@@ -116,7 +116,7 @@ def completions(box):
         (("recover-controller", "db", "config", "9", "con"), ["config"]),
     ]
     for words, right in rows:
-        asked = [need("bash"), "-c", COMPLETING, f"{TOP}/tools/operator/csi-replay.bash", "csi-replay", *words]
+        asked = [need("bash"), "-c", COMPLETING, f"{TOP}/tools/operate/csi-replay.bash", "csi-replay", *words]
         ran = subprocess.run(asked, cwd=box.folder, env={"PATH": os.environ["PATH"]}, capture_output=True, check=False, timeout=60)
         wanted(f"{words}", (sorted(ran.stdout.decode().split()), ran.stderr), (sorted(right), b""))
 

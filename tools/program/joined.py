@@ -45,7 +45,7 @@ def audited(box, told):
         ran = box.run("record", name)
         wanted(f"{told}: record of {name}", (ran.status, ran.error), (0, b""))
         lines.append(ran.out)
-    ran = subprocess.run([sys.executable, f"{TOP}/tools/operator/audit"], input=b"".join(lines), capture_output=True, timeout=LIMIT, check=False)
+    ran = subprocess.run([sys.executable, f"{TOP}/tools/operate/audit"], input=b"".join(lines), capture_output=True, timeout=LIMIT, check=False)
     wanted(f"{told}: the audit", (ran.returncode, ran.stderr), (0, b""))
     return lines
 

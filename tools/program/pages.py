@@ -9,7 +9,7 @@ from .running import LIMIT, Case, need, wanted
 TOP = os.path.dirname(os.path.dirname(os.path.dirname(os.path.realpath(__file__))))
 PAGES = ("README.md", "docs/OPERATING.md", "docs/PROGRAMS.md", "docs/INTEGRATING.md")
 # A line with one of these is left out: it proves, builds or installs.
-LEFT_OUT = ("rt ci", "rt try", "rt lib", ".ci/run", "tools/operator/install", "tools/csi")
+LEFT_OUT = ("rt ci", "rt try", "rt lib", ".ci/run", "tools/operate/install", "tools/csi")
 MARK = "-- the next block"
 BLOCK = re.compile(r"^```(\w*)\n(.*?)^```$", re.MULTILINE | re.DOTALL)
 

@@ -1,9 +1,9 @@
-# Lays out in `tree` what packages and tarball have, as it lies where they are installed. Sourced by tools/operator/package, which has `top` and `tree`.
+# Lays out in `tree` what packages and tarball have, as it lies where they are installed. Sourced by tools/operate/package, which has `top` and `tree`.
 
 # Puts a file of the first name into the tree by the second.
 lay() { install -D -m "${3:-644}" "$1" "$tree/$2"; }
 
-# What tools/operator/install left goes where Debian has libraries of one architecture.
+# What tools/operate/install left goes where Debian has libraries of one architecture.
 lay_library() {
     local it machine=usr/lib/x86_64-linux-gnu
     mkdir -p "$tree/$machine"
@@ -17,7 +17,7 @@ lay_library() {
 lay_service() {
     local it
     for it in tufayon-orchestrator tufayon-controller tufayon-node tufayonctl csi-driver; do lay "$1/$it" "usr/bin/$it" 755; done
-    lay "$top/tools/operator/certificates" usr/bin/tufayon-certificates 755
+    lay "$top/tools/operate/certificates" usr/bin/tufayon-certificates 755
     lay "$top/deploy/demo" usr/bin/tufayon-demo 755
     for it in "$top"/deploy/systemd/*.service; do lay "$it" "lib/systemd/system/${it##*/}"; done
     # A program that tells systemd nothing is taken as started once it runs.

@@ -1,5 +1,5 @@
 /* What a program that clang compiled with -fprofile-generate asks for at its end: what was counted is written to the file COUNTS.PID, where the environment
- * has COUNTS. It is LLVM's raw profile, version 10, which `llvm-profdata merge` reads; for tools/operator/install, since the kit has no such library. */
+ * has COUNTS. It is LLVM's raw profile, version 10, which `llvm-profdata merge` reads; for tools/operate/install, since the kit has no such library. */
 typedef unsigned char byte;
 typedef unsigned long word;
 #define HIDDEN __attribute__((visibility("hidden")))

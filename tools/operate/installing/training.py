@@ -1,5 +1,5 @@
 """Runs a program of csi-replay as it is used: every subcommand, on calls, schedules and lines of usual kinds, a second or two in all.
-For `tools/operator/install`.
+For `tools/operate/install`.
 
 training.py PROGRAM: with this environment. The frames and schedules are drawn as bench/figures makes them, the lines by tools/embed.py."""
 import importlib.machinery

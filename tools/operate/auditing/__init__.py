@@ -1,0 +1,1 @@
+"""What tools/operate/audit reads, and what it looks for."""

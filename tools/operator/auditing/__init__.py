@@ -1,1 +1,0 @@
-"""What tools/operator/audit reads, and what it looks for."""
