@@ -8,6 +8,7 @@ import (
 	"time"
 
 	"google.golang.org/grpc"
+	"google.golang.org/grpc/backoff"
 	"google.golang.org/grpc/metadata"
 
 	"tufayon/service/frames"
@@ -34,6 +35,12 @@ type carrier struct {
 	connections map[string]*grpc.ClientConn // by plugin
 }
 
+// reconnecting says how a driver is sought that isn't there: soon, and then once a second.
+var reconnecting = grpc.ConnectParams{
+	Backoff:           backoff.Config{BaseDelay: 50 * time.Millisecond, Multiplier: 1.6, Jitter: 0.2, MaxDelay: time.Second},
+	MinConnectTimeout: time.Second,
+}
+
 // connect makes a connection to each driver, which is used whenever the driver is there.
 func connect(config Config) (*carrier, error) {
 	carrier := &carrier{config: config, connections: map[string]*grpc.ClientConn{}}
@@ -42,7 +49,7 @@ func connect(config Config) (*carrier, error) {
 		endpoints["node:"+node] = endpoint
 	}
 	for plugin, endpoint := range endpoints {
-		connection, err := grpc.Dial(endpoint, grpc.WithInsecure(), grpc.WithConnectParams(grpc.ConnectParams{MinConnectTimeout: time.Second}))
+		connection, err := grpc.Dial(endpoint, grpc.WithInsecure(), grpc.WithConnectParams(reconnecting))
 		if err != nil {
 			carrier.close()
 			return nil, fmt.Errorf("%s: %w", plugin, err)

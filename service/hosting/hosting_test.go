@@ -5,7 +5,10 @@ import (
 	"context"
 	"errors"
 	"fmt"
+	"net"
+	"path/filepath"
 	"strings"
+	"sync/atomic"
 	"testing"
 	"time"
 )
@@ -96,5 +99,35 @@ func TestProcess(t *testing.T) {
 	}
 	if _, err := running.Answers(asked[:1]); !errors.Is(err, ErrOrchestrator) {
 		t.Errorf("a program that ended: %v", err)
+	}
+}
+
+// A driver that hangs up is sought again and again, but no more than ten times in the first half of a second.
+func TestReconnecting(t *testing.T) {
+	path := filepath.Join(t.TempDir(), "csi.sock")
+	listener, err := net.Listen("unix", path)
+	if err != nil {
+		t.Fatal(err)
+	}
+	defer listener.Close()
+	var sought int32
+	go func() {
+		for {
+			connection, err := listener.Accept()
+			if err != nil {
+				return
+			}
+			atomic.AddInt32(&sought, 1)
+			connection.Close()
+		}
+	}()
+	carrier, err := connect(Config{Controller: "unix://" + path})
+	if err != nil {
+		t.Fatal(err)
+	}
+	defer carrier.close()
+	time.Sleep(500 * time.Millisecond)
+	if count := atomic.LoadInt32(&sought); count < 2 || count > 10 {
+		t.Errorf("it was sought %d times", count)
 	}
 }
