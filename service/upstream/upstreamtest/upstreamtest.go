@@ -104,7 +104,11 @@ func (upstream *Upstream) Restart() {
 }
 
 // Die has it gone at once: what it hasn't done by now it never does.
-func (upstream *Upstream) Die() { upstream.ended().Stop() }
+func (upstream *Upstream) Die() {
+	if server := upstream.ended(); server != nil { // it never was, where its socket's path is too long
+		server.Stop()
+	}
+}
 
 // ended gives the server of the life that is over now.
 func (upstream *Upstream) ended() *grpc.Server {
