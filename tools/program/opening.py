@@ -1,5 +1,5 @@
-"""A store that is opened in a process that may have little memory: at each limit either it is opened, or that is told as want of memory, and the store
-is as it was. Contracts allow an answer of want of memory without a cause, and a process alone sees what the system refuses."""
+"""A store that is opened in a process that may have little memory: at each limit either it is opened, or that is told as out of memory, and the store
+is as it was. Contracts allow an answer of out of memory without a cause, and a process alone sees what the system refuses."""
 import os
 import signal
 

@@ -115,7 +115,7 @@ heard-front old came frame used new room count bytes fault ending begins (inr (i
 
 -- ---- what was read is what is asked
 
--- there is one that is this, so want of one is want of memory, or none at all
+-- there is one that is this, so the lack of one is out of memory, or none at all
 none-of : {X : Type 0} (Is : X → Type 0) (this : X) (ending : CallEnding) → HasNone (λ (it : X). it ≡ this) ending → HasNone Is ending
 none-of Is this NoMemory none = tt
 none-of Is this BadName none = absurd (none this refl)

@@ -30,7 +30,7 @@ none-longer bytes read size every short frame spells = elim (every frame (length
   | inr other ↦ absurd (cc)
 ]
 
--- where they have a fault, which is no want of memory
+-- where they have a fault, which isn't out of memory
 pub none-faulty : (bytes : List ℕ) (fault : FrameFault) → ((frame : Frame) (n : ℕ) → BeginsWith bytes frame n → GivesUnlessMemory {X = Frame × ℕ} (Err fault) (frame, n)) → (fault.kind ≡ frame_faults.NoMemory → ⊥)
     → (frame : Frame) → Spells frame bytes → ⊥
 none-faulty bytes fault every other frame spells = elim (every frame (length bytes) (whole bytes frame spells)) [
@@ -44,7 +44,7 @@ pub refused-reply : {T E : Type 0} (text_of : T → List ℕ) (bytes : List ℕ)
 refused-reply text_of bytes old new (Ok text) none told = (inr (none, told.0), told.1)
 refused-reply text_of bytes old new (Err stop) none told = tt
 
--- a fault that is no want of memory is the line's
+-- a fault that isn't out of memory is the line's
 pub of-fault : (answer : Result RequestShown RequestFault) (fault : RequestFault) → (fault ≡ no_requests.NoMemory → ⊥) → IsRequestFault answer fault → answer ≡ Err fault
 of-fault answer no_requests.NotJson other is = is
 of-fault answer no_requests.BadLine other is = is

@@ -50,7 +50,7 @@ fn told_line(
     }
 }
 
-/// The line of a command or a timeout about the volume of a name. Want of memory has none.
+/// The line of a command or a timeout about the volume of a name. Out of memory has none.
 pub(crate) fn command_line(
     alloc: Global,
     orchestrator: &Orchestrator,
@@ -117,7 +117,7 @@ fn no_row_line(alloc: Global, heard: Result<Heard, OrchFault>) -> Result<String,
     }
 }
 
-/// The line of a frame that came, about the row at the place where its call's row was found. Want of memory has none.
+/// The line of a frame that came, about the row at the place where its call's row was found. Out of memory has none.
 pub(crate) fn heard_line(
     alloc: Global,
     orchestrator: &Orchestrator,
@@ -136,7 +136,7 @@ pub(crate) fn heard_line(
     }
 }
 
-/// The line of a node that was to be taken as lost, in this session then. Want of memory has none, and is no answer to a loss.
+/// The line of a node that was to be taken as lost, in this session then. Out of memory has none, and is no answer to a loss.
 pub(crate) fn loss_told(
     alloc: Global,
     node: &NodeId,

@@ -31,7 +31,7 @@ decision-tells nodes last step row decision is = grind arith
 pub sends-unmet : (nodes : List (List ℕ)) (last : Number) (step : Step) (row : RowShown) → Send ≡ decided nodes last step row → is_step_met step row ≡ false
 sends-unmet nodes last step row is = grind arith
 
--- no delete is refused for want of memory
+-- no delete is refused as out of memory
 pub deletes-without : (nodes : List (List ℕ)) (last : Number) (row : RowShown) → Refuse faults.NoMemory ≡ decided nodes last steps.Delete row → ⊥
 deletes-without nodes last row is = grind arith
 

@@ -1,4 +1,4 @@
-//! How a table is played. Every step may see a growth refused: it then answers want of memory and changes nothing, and
+//! How a table is played. Every step may see a growth refused: it then answers out of memory and changes nothing, and
 //! answers in full when it is asked again. So each test is one of refused growths too (by `tools/refusals`).
 use crate::asking::{answer, is_given};
 use crate::steps::{Ask, Gives, MANY, NODES, OK, Sent, Step};
@@ -12,7 +12,7 @@ use std::process::Abort;
 // What a row says, and which of its steps it is.
 type At = (&'static str, usize);
 
-// It is asked again what it refused for want of memory, lists what it listed before, and gives this now.
+// It is asked again what it refused as out of memory, lists what it listed before, and gives this now.
 fn stays_and_gives(
     rt: &(impl Abort + AllocGlobal),
     o: &mut Orchestrator,

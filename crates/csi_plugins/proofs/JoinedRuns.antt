@@ -143,7 +143,7 @@ module _ {X C : Type 0} (way : Way X C) (steady : IsSteady way) where
   opens-same parts new is (inr becomes) = absurd (no-becomes parts new is becomes)
 
   module _ (before after : Store) (io : Streams) (ending : Ending) (parts : List StoredPart) (is : way.records.are present parts) (honest : after.honest) (holds : before.holds parts) where
-    -- only want of memory and a failing device keep it from being opened
+    -- only being out of memory and a failing device keep it from being opened
     hindrance : (fault : KeepFault) → IsOpenFault way.records before after way.head fault → IsHindrance before after fault
     hindrance faults.Device cause = cause
     hindrance faults.NoMemory cause = tt

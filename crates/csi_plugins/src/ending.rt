@@ -6,7 +6,7 @@ ghost use Rattle.csi_plugins.specs.Public.Ending.{ending_of_node as by_node, end
 use csi_service::{KeepFault, NodeUnopened, ServeFault, ServeFaultKind, Served};
 use csi_streams::Ending;
 
-/// The ending where the store of a plugin refuses so: a device that fails, or is full; want of memory; or the first part that
+/// The ending where the store of a plugin refuses so: a device that fails, or is full; out of memory; or the first part that
 /// is none of the plugin's record.
 pub(crate) fn ending_of_store(fault: KeepFault) -> Ending
     ensures { result ≡ by_store fault }
@@ -28,7 +28,7 @@ pub(crate) fn ending_of_node(why: NodeUnopened) -> Ending
     }
 }
 
-/// The ending where a plugin's store can't be opened, for this cause: `StoreNotOpened` for all but want of memory. This profile's
+/// The ending where a plugin's store can't be opened, for this cause: `StoreNotOpened` for all but out of memory. This profile's
 /// own.
 pub fn ending_unopened(fault: KeepFault) -> Ending
     ensures { result ≡ by_opening fault }

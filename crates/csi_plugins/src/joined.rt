@@ -9,7 +9,7 @@ use std::io::{Read, Write};
 /// A law, and nothing that runs: two runs of one plugin over one store, one after another, each by a process of its own and so over a keeper
 /// of its own, however each ended, are one run, in which the plugin was opened again between: of as many of the first run's frames as were
 /// committed, or of those too that were answered behind them, where their commit was refused, and then of the second's. The second begins
-/// with what opening the store again found, which it may always: only want of memory and a failing device keep it from that, and then it
+/// with what opening the store again found, which it may always: only being out of memory and a failing device keep it from that, and then it
 /// changes nothing. It asks that the first was opened, that the store had a content, and is honest after each run; and of the file system,
 /// that between the two the second process finds one of the contents that the first may have left (`Reopens`). This profile's own.
 pub fn runs_law<K: Keep, L: Keep, R: Read, W: Write>()

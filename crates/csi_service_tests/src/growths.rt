@@ -1,5 +1,5 @@
 //! Refused growths of openings and of serving. With memory to spare each test compares the whole answers. Run with one allocation refused, each in
-//! turn (`tools/refusals`), the run that sees it ends in want of memory, where the store has what was committed before, and goes on once it is opened
+//! turn (`tools/refusals`), the run that sees it ends out of memory, where the store has what was committed before, and goes on once it is opened
 //! again.
 use crate::contents::{NOTHING, has, puts};
 use crate::script::{AT_ONCE, CUTS, Cut, SCRIPT};
@@ -35,7 +35,7 @@ fn served(
     count
 }
 
-// The turn, read so, and where it ended in want of memory its rest. Of frames that are read at once those before the one that wanted memory are
+// The turn, read so, and where it ended out of memory its rest. Of frames that are read at once those before the one that wanted memory are
 // committed and replied.
 fn lives(rt: &(impl Abort + AllocGlobal), turn: &Turn, (most, _, _): Cut) {
     let mut keep = MemoryKeep::new(rt.alloc(), 1000);

@@ -28,7 +28,7 @@ pub(crate) enum End {
 const CONFIG: &str =
     "{\"greatest\":1000,\"nodes\":[{\"id\":\"n1\",\"slots\":4},{\"id\":\"n2\",\"slots\":4}]}";
 
-/// The controller's configuration. It is refused for want of memory alone, and then read the second time.
+/// The controller's configuration. It is refused as out of memory only, and then read the second time.
 pub(crate) fn config(rt: &(impl Abort + AllocGlobal)) -> Config {
     match read_config(rt.alloc(), CONFIG) {
         Err(ScheduleFault::NoMemory) => read_config(rt.alloc(), CONFIG).expect(rt, "memory"),

@@ -6,7 +6,7 @@ ghost use Rattle.csi_frames.specs.Public.Spelling.{Spells};
 use csi_frames::{FrameFault, encode};
 use csi_types::{Frame, NoMemory};
 
-/// Want of memory: bytes that spell a frame have no other fault.
+/// Out of memory: bytes that spell a frame have no other fault.
 pub(crate) fn memory_of(_fault: &FrameFault) -> NoMemory
     requires { _fault.now ≡ no_memory }
 {

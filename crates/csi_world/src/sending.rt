@@ -28,7 +28,7 @@ fn send(frames: &mut Vec<Frame>, frame: Frame) -> Result<u64, NoMemory>
     Ok(frames.len() as u64)
 }
 
-// What comes of a refusal. Want of memory is none.
+// What comes of a refusal. Out of memory is none.
 fn refused(fault: OrchFault) -> Result<Outcome, NoMemory>
     ensures { IfOk result (IsInputRefused [] [] fault) }
 {

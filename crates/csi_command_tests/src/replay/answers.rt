@@ -1,4 +1,4 @@
-//! The replies to a stream, whole, and before that in want of memory.
+//! The replies to a stream, whole, and before that out of memory.
 use super::running::{Written, bytes_of};
 use super::{CONTROLLER_PUBLISH, CREATE, CREATED, NO_NODE};
 use csi_commands::{SliceFault, answer};

@@ -1,4 +1,4 @@
-//! Texts that are read as a configuration alone, or have a fault, which want of memory never hides: each is read the second time where
+//! Texts that are read as a configuration alone, or have a fault, which a lack of memory never hides: each is read the second time where
 //! memory was refused.
 use csi_json::{ScheduleFault, read_config};
 use std::alloc::Global;

@@ -4,7 +4,7 @@ use Rattle.csi_streams.specs.declared.ending.Ending.TheVariants as endings
 use Rattle.csi_json.specs.declared.fault.ScheduleFault.{ScheduleFault}
 use Rattle.csi_json.specs.declared.fault.ScheduleFault.TheVariants.{NotJson, BadSchedule, TooMany, NoMemory}
 
--- want of memory is no fault of the schedule
+-- out of memory is no fault of the schedule
 abbrev pub refusal_of : ScheduleFault → Ending
 refusal_of NoMemory = endings.Memory
 refusal_of NotJson = endings.ScheduleFault NotJson

@@ -11,7 +11,7 @@ use Rattle.csi_streams.specs.Public.FrameLines.{lines}
 use Rattle.csi_commands.specs.Public.Running.{Drawing, Plays, IsScheduleRefused}
 
 -- Of a command on frames, that gives this text of them: where it is done, it has appended that of all frames, and the rest is empty; a fault is
--- that of the rest, and the text of all frames before it was appended, or at want of memory that of some of the first.
+-- that of the rest, and the text of all frames before it was appended, or, out of memory, that of some of the first.
 abbrev pub FramesEnd : (List Frame → List ℕ) → List Frame → List ℕ → List ℕ → List ℕ → Ending → Type 0
 FramesEnd text frames rest old new Done = AppendsAll text frames rest old new
 FramesEnd text frames rest old new (FrameFault kind place) = Fails text frames rest old new (faults.Frame kind place)

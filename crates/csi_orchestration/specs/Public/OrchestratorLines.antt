@@ -56,7 +56,7 @@ lost_entry node (Err fault) session = loss_entry node (Refused fault) session
 
 -- ---- how it is answered
 
--- A command or a timeout about the volume of a name: the orchestrator answered so, which was no want of memory, and that is told.
+-- A command or a timeout about the volume of a name: the orchestrator answered so, which wasn't out of memory, and that is told.
 pub record AnswersCommand (input : Input) (name : List ℕ) (old : ServedOrchestrator) (answer : List ℕ) (new : ServedOrchestrator) : Type 0 where
   pub told : Result (Option Frame) OrchFault
   pub answered : OrchestratorAnswers Sends old input told new

@@ -16,7 +16,7 @@ pub record MovedRows : Type 0 where
 abbrev pub moved_rows : OrchestratorParts → Answer → Result MovedRows OrchFault
 moved_rows parts answer = Ok (record { answer = answer; parts = parts })
 
--- the code refuses with the fault that is told; where nothing else refuses, it may still refuse for want of memory
+-- the code refuses with the fault that is told; where nothing else refuses, it may still refuse as out of memory
 abbrev pub IsRefusal : {X : Type 0} → Result X OrchFault → OrchFault → Type 0
 IsRefusal (Ok moved_rows) fault = fault ≡ faults.NoMemory
 IsRefusal (Err other) fault = fault ≡ other

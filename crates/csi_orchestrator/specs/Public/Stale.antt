@@ -1,5 +1,5 @@
 -- A reply by which an open call is stale: a plugin answered a later call of the volume, or heard of a later session. In no run of one orchestrator one
--- comes (`stale_law` of `csi_world`); so its store is an older one. This profile's own.
+-- comes (`stale_law` of `csi_recovery`); so its store is an older one. This profile's own.
 use Rattle.std.specs.Prelude.{Bool, true, false, ◌&&◌, Option, None, is_some, codes}
 use Rattle.csi_types.specs.declared.number.Number.{Number}
 use Rattle.csi_types.specs.declared.call.Party.{Party}

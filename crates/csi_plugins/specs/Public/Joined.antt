@@ -129,7 +129,7 @@ pub record AreOneRun {X C K L R W : Type 0} (way : Way X C) (sight : Sight K R W
 
 -- ---- where a run began not at all
 
--- what keeps a plugin from being opened again from its own record: want of memory, or the device, which failed
+-- what keeps a plugin from being opened again from its own record: out of memory, or the device, which failed
 abbrev pub IsHindrance : Store → Store → KeepFault → Type 0
 IsHindrance before after faults.Device = HasRisen before.faults after.faults
 IsHindrance before after faults.NoMemory = Unit {0}

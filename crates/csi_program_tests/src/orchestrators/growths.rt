@@ -1,5 +1,5 @@
 //! Refused growths of the orchestrator's program over a store, as it is opened and as it serves. With memory to spare each run compares all answers.
-//! Run with one allocation refused, each in turn (`tools/refusals`), the run that sees it ends in want of memory, and the life goes on where the
+//! Run with one allocation refused, each in turn (`tools/refusals`), the run that sees it ends out of memory, and the life goes on where the
 //! store is opened again: of lines that are read at once those before the one that wanted memory are committed and answered.
 use super::script::{Side, WHOLE, lines};
 use super::{Start, answers, count, goes_on, is_whole, kept, puts};

@@ -26,7 +26,7 @@ pub record Recovery : Type 0 where
 abbrev pub MayRefuse : List (List ℕ) → ℕ → ControllerState → List GivenNode → RecoveryFault → Type 0
 MayRefuse nodes session controller given fault = (fault ≡ NoMemory) ⊎ IsRecoveryRefusal nodes session controller given fault
 
--- as an outcome tells it; want of memory is none
+-- as an outcome tells it; out of memory is none
 abbrev pub told_as : RecoveryFault → Option RecoveryRefusal
 told_as (SameNode place) = Some refusals.SameNode
 told_as NotLater = Some refusals.NotLater

@@ -32,7 +32,7 @@ abbrev pub IsPosted : List Frame → List Frame → Answer → Outcome → Type 
 IsPosted old new answer outcome =
     (world : World) → world.frames ≡ old → by_answer world answer ≡ record { world = record world { frames = new }; outcome = outcome }
 
--- a refusal that isn't want of memory sends nothing
+-- a refusal that isn't out of memory sends nothing
 pub record IsInputRefused (old new : List Frame) (fault : OrchFault) (outcome : Outcome) : Type 0 where
   pub other : fault ≡ NoMemory → ⊥
   pub frames : new ≡ old
