@@ -13,7 +13,8 @@ use Rattle.csi_world.specs.Model.After.{Run, occurs, after, after_from}
 use Rattle.csi_world.specs.Model.Safe.{Safe}
 use Rattle.csi_world.specs.Model.Simulated.{WorldParts, ShowsWorld, ShowsRun}
 use Rattle.csi_world.specs.Model.World.{World, node_id, empty_world}
-use Rattle.csi_world.specs.Public.Recovery.{IsSafeOn, StaysSafe, RecoveryLaw, recovered_world}
+use Rattle.csi_world.specs.Public.Recovery.{recovered_world}
+use Rattle.csi_recovery.specs.Public.Laws.{IsSafeOn, StaysSafe, RecoveryLaw}
 use Rattle.csi_world.specs.Public.Simulating.{IsOfWorld}
 use Rattle.csi_world.specs.Public.Step.{Choice, MayChooseAll, chosen_all}
 use Rattle.csi_world.proofs.RunSteps.{all-append, chosen-append, one-event}

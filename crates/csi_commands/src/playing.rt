@@ -7,9 +7,9 @@ ghost use Rattle.csi_commands.specs.Private.Playing.{Happens};
 
 use csi_json::{Happening, Schedule};
 use csi_orchestrator::moves_law;
-use csi_recovery::recover_world;
+use csi_recovery::{recover_world, recovery_law};
 use csi_types::NoMemory;
-use csi_world::{World, recovery_law, simulate};
+use csi_world::{World, simulate};
 use std::alloc::Global;
 
 /// Lets an event happen, or a recovery. An `Err` is an allocation that was refused.

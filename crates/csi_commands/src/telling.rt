@@ -9,8 +9,9 @@ ghost use Rattle.csi_commands.specs.Public.Running.{settles, IsToldAs};
 use crate::playing::happen;
 use csi_json::{Happening, Schedule};
 use csi_orchestrator::moves_law;
+use csi_recovery::recovery_law;
 use csi_types::{Config, Name, NoMemory};
-use csi_world::{Event, Outcome, World, recovery_law, simulate, told_one_by_one};
+use csi_world::{Event, Outcome, World, simulate, told_one_by_one};
 use std::alloc::Global;
 
 // Whether one of these events settles a volume.

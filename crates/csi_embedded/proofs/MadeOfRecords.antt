@@ -20,7 +20,7 @@ use Rattle.csi_recovery.specs.declared.fault.RecoveryFault.{RecoveryFault}
 use Rattle.csi_recovery.specs.declared.fault.RecoveryFault.TheVariants as faults
 use Rattle.csi_recovery.proofs.OpenedAgain.{opened-next}
 use Rattle.csi_recovery.specs.Public.Judged.{IsKeptOf, IsGiven, AreGiven, record_of, IsRecoveryRefusal}
-use Rattle.csi_world.specs.Public.Recovered.{GivenNode, recovered, recovered_rows, MayRecover}
+use Rattle.csi_recovery.specs.Public.Recovered.{GivenNode, recovered, recovered_rows, MayRecover}
 use Rattle.csi_service.specs.Public.OrchestratorOpening.{opening_refusal}
 use Rattle.csi_embedded.specs.declared.ending.CallEnding.{CallEnding}
 use Rattle.csi_embedded.specs.declared.ending.CallEnding.TheVariants.{NoMemory, Empty, BadName, Refused, OtherKind, SameNode, NotLater, Disagrees, BadRow}

@@ -2,7 +2,7 @@
 use Rattle.std.proofs.Common.{◌≡◌, ◌∙◌, ◌≤◌, ◌+◌, refl, sym, ap, subst, inl, inr, ℕ, suc, List, [], ◌∷◌, length, Bool, true, false, Some, min, arith}
 use Rattle.csi_controller.specs.Model.State.{ControllerState}
 use Rattle.csi_node.specs.Model.Record.{NodeParts}
-use Rattle.csi_world.specs.Public.Recovered.{GivenNode}
+use Rattle.csi_recovery.specs.Public.Recovered.{GivenNode}
 use Rattle.csi_recovery.specs.declared.fault.RecoveryFault.{RecoveryFault}
 use Rattle.csi_recovery.specs.declared.fault.RecoveryFault.TheVariants.{SameNode, NotLater, Disagrees, BadNodes, BadRow, NoMemory}
 use Rattle.csi_recovery.specs.Public.Judged.{AreGiven, IsLater, IsRecoveryRefusal}

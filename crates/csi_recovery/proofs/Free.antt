@@ -33,7 +33,7 @@ use Rattle.csi_node.specs.Public.Record as node_rules
 use Rattle.csi_orchestrator.specs.Model.Shown.{RowShown}
 use Rattle.csi_orchestrator.specs.Public.Judging.{IsFirstRefused}
 use Rattle.csi_orchestrator.specs.Public.Restored.{IsRestorable, AreRestorable}
-use Rattle.csi_world.specs.Public.Recovered.{GivenNode}
+use Rattle.csi_recovery.specs.Public.Recovered.{GivenNode}
 use Rattle.csi_recovery.specs.Public.Judged.{IsKeptOf, IsGiven, AreGiven, DoAgree, IsFreeRow, IsNotFree}
 use Rattle.csi_recovery.specs.Private.Walks.{held_by_row, held_in, fits_staged, fits_row, targets_by, targets_of, targets_at, row_from}
 use Rattle.csi_recovery.proofs.Found.{only-found}

@@ -6,7 +6,7 @@ use Rattle.std.proofs.lemmas.List.{take_all}
 use Rattle.csi_types.specs.Model.Members.{IsAmong}
 use Rattle.csi_types.specs.Model.Same.{same_text}
 use Rattle.csi_node.specs.Model.Record.{NodeParts}
-use Rattle.csi_world.specs.Public.Recovered.{GivenNode}
+use Rattle.csi_recovery.specs.Public.Recovered.{GivenNode}
 use Rattle.csi_recovery.specs.Public.Judged.{IsGiven, AreGiven, IsFirst}
 
 -- as many

@@ -16,7 +16,7 @@ use Rattle.csi_orchestrator.specs.declared.fault.OrchRecordFault.TheVariants as 
 use Rattle.csi_orchestrator.specs.Public.Judging.{IsFirstRefused}
 use Rattle.csi_orchestrator.specs.Public.Record.{IsRecordRefusal}
 use Rattle.csi_orchestrator.specs.Public.Restored.{AreRestorable}
-use Rattle.csi_world.specs.Public.Recovered.{GivenNode, recovered_rows, Agree, MayRecover}
+use Rattle.csi_recovery.specs.Public.Recovered.{GivenNode, recovered_rows, Agree, MayRecover}
 use Rattle.csi_recovery.specs.declared.fault.RecoveryFault.{RecoveryFault}
 use Rattle.csi_recovery.specs.declared.fault.RecoveryFault.TheVariants.{SameNode, NotLater, Disagrees, BadNodes, BadRow, NoMemory}
 use Rattle.csi_recovery.specs.Public.Judged.{IsKeptOf, IsGiven, AreGiven, HaveDistinctNodes, DoAgree, IsLater, AreFit, IsNotFree, IsUnfit, IsRecoveryRefusal}

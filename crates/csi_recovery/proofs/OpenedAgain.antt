@@ -6,7 +6,7 @@ use Rattle.csi_orchestrator.specs.Public.Beginning.{remembered}
 use Rattle.csi_orchestrator.specs.Public.Laws.{opened_parts}
 use Rattle.csi_orchestrator.specs.Public.Record.{RecordParts}
 use Rattle.csi_recovery.specs.Public.Judged.{record_of}
-use Rattle.csi_world.specs.Public.Recovered.{GivenNode, recovered, recovered_row, MayRecover}
+use Rattle.csi_recovery.specs.Public.Recovered.{GivenNode, recovered, recovered_row, MayRecover}
 
 -- each row of a recovery is remembered
 all-remembered : (controller : ControllerState) (known : List GivenNode) (volumes : List Volume)

@@ -39,7 +39,7 @@ use Rattle.csi_recovery.specs.declared.rebuilding_fault.RebuildingFault.{Rebuild
 use Rattle.csi_recovery.specs.declared.rebuilding_fault.RebuildingFault.TheVariants.{NumbersSpent, IdTaken, BadRow, NoMemory}
 use Rattle.csi_recovery.specs.Public.Rebuilding.{kept_holding, kept_holdings, made_shown, row_made, AreBelow, IsTakenAt, IsMadeOf, IsRebuiltOf, MayRebuild, IsRebuildingRefusal}
 use Rattle.csi_recovery.specs.Private.Rebuilding.{passed_on_record, IsReady, IsUnready}
-use Rattle.csi_world.specs.Public.Rebuilt.{volume_with, volume_by, rebuilt_volume, rebuilt_volumes, rebuilt_holding, holdings_with, rebuilt_holdings}
+use Rattle.csi_recovery.specs.Public.Rebuilt.{volume_with, volume_by, rebuilt_volume, rebuilt_volumes, rebuilt_holding, holdings_with, rebuilt_holdings}
 
 -- ---- row by row
 

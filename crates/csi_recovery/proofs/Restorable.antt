@@ -32,7 +32,7 @@ use Rattle.csi_orchestrator.specs.Public.Restored.{IsRestorable}
 use Rattle.csi_orchestrator.specs.Public.RowRules.{MayBeWanted}
 use Rattle.csi_orchestrator.specs.Public.Shown.{AreTargetsApart, AreNodesApart}
 use Rattle.csi_orchestrator.specs.Public.Steady.{HasTries, IsUntried, IsStanding, HasOne, IsAtWork, HasMarks, IsLeftSo, IsAtRest, AreMarked, HasLast, IsAllowed, CanBeBeside}
-use Rattle.csi_world.specs.Public.Recovered.{root, is_maybe, undoing, tries_for, row_with}
+use Rattle.csi_recovery.specs.Public.Recovered.{root, is_maybe, undoing, tries_for, row_with}
 use Rattle.csi_recovery.specs.Public.Judged.{IsFreeRow}
 use Rattle.csi_recovery.specs.Private.Walks.{entry_with, published_there, undone_there}
 use Rattle.csi_recovery.proofs.Found.{two-seen}

@@ -6,7 +6,7 @@ use Rattle.csi_types.specs.Model.Members.{IsAmong}
 use Rattle.csi_controller.specs.Model.State.{ControllerState}
 use Rattle.csi_controller.specs.Public.Views as controller
 use Rattle.csi_node.specs.Model.Record.{NodeParts}
-use Rattle.csi_world.specs.Public.Recovered.{GivenNode}
+use Rattle.csi_recovery.specs.Public.Recovered.{GivenNode}
 use Rattle.csi_recovery.specs.Public.Judged.{IsKeptOf, AreGiven, IsLater}
 use Rattle.csi_recovery.specs.Public.Session.{latest_session, greatest_session}
 use Rattle.csi_recovery.specs.Private.Walks.{latest_kept}

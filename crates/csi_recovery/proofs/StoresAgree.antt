@@ -25,7 +25,7 @@ use Rattle.csi_node.specs.Model.State.{StagedVolume, PublishedVolume, published_
 use Rattle.csi_node.specs.Model.Record.{NodeParts, parts}
 use Rattle.csi_node.specs.Model.Shown.{row_in, staged_in, published_in, published_in_row}
 use Rattle.csi_node.specs.Public.Record as node_rules
-use Rattle.csi_world.specs.Public.Recovered.{GivenNode, IsHeldAs, Agree}
+use Rattle.csi_recovery.specs.Public.Recovered.{GivenNode, IsHeldAs, Agree}
 use Rattle.csi_recovery.specs.Public.Judged.{IsKeptOf, IsGiven}
 use Rattle.csi_recovery.specs.Private.Walks.{held_by_row, held_in, has_flag, fits_holding, fits_staged, fits_row}
 use Rattle.csi_recovery.proofs.Found.{only-found, node-rise}

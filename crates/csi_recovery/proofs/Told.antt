@@ -22,7 +22,7 @@ use Rattle.csi_node.specs.Model.Record.{NodeParts}
 use Rattle.csi_node.specs.Model.Shown.{RowsShow, row_in, staged_in, published_in, published_in_row}
 use Rattle.csi_orchestrator.specs.declared.row.TargetEntry.{TargetEntry}
 use Rattle.csi_orchestrator.specs.declared.thing.Known.TheVariants.{Yes}
-use Rattle.csi_world.specs.Public.Recovered.{GivenNode, target_of, entry_by, entry_at, entry_of, row_with, recovered_row, recovered_rows}
+use Rattle.csi_recovery.specs.Public.Recovered.{GivenNode, target_of, entry_by, entry_at, entry_of, row_with, recovered_row, recovered_rows}
 use Rattle.csi_recovery.specs.Public.Judged.{IsKeptOf, AreGiven}
 use Rattle.csi_recovery.specs.Private.Walks.{targets_by, targets_of, entry_so, entry_with, entry_from, published_there, row_from}
 use Rattle.csi_recovery.proofs.Given.{FoundSo, found-so}

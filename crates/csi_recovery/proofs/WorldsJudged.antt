@@ -7,7 +7,7 @@ use Rattle.csi_world.specs.Model.Simulated.{AreNodesShown}
 use Rattle.csi_world.specs.Model.World.{NodeAt}
 use Rattle.csi_world.specs.Public.Given.{IsKept, AreThose}
 use Rattle.csi_recovery.specs.Private.Worlds.{IsCopyOf}
-use Rattle.csi_world.specs.Public.Recovered.{GivenNode}
+use Rattle.csi_recovery.specs.Public.Recovered.{GivenNode}
 use Rattle.csi_world.specs.Public.Recovery.{is_given}
 use Rattle.csi_recovery.specs.Public.Judged.{AreGiven}
 

@@ -6,7 +6,7 @@ ghost use Rattle.csi_controller.specs.Model.State.{ControllerState};
 ghost use Rattle.csi_controller.specs.Public.Core.{AreRisingRows};
 ghost use Rattle.csi_node.specs.Model.Record.{parts};
 ghost use Rattle.csi_node.specs.Public.Record.{AreSoundRows};
-ghost use Rattle.csi_world.specs.Public.Recovered.{GivenNode, Agree};
+ghost use Rattle.csi_recovery.specs.Public.Recovered.{GivenNode, Agree};
 ghost use Rattle.csi_recovery.specs.Public.Judged.{IsKeptOf, IsGiven, AreGiven, DoAgree, IsFirst};
 ghost use Rattle.csi_recovery.specs.Private.Walks.{has_flag as is_flagged, fits_holding as is_held_so, fits_row as is_fit};
 

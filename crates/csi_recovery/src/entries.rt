@@ -2,7 +2,7 @@
 ghost use Rattle.std.specs.Prelude.{◌≡◌, [], ◌∷◌, map, Some, IfOk};
 ghost use Rattle.std.specs.Option.{option_copied};
 ghost use Rattle.csi_orchestrator.specs.Public.Shown.{node_entry_shown};
-ghost use Rattle.csi_world.specs.Public.Recovered.{root as root_text};
+ghost use Rattle.csi_recovery.specs.Public.Recovered.{root as root_text};
 ghost use Rattle.csi_recovery.specs.Private.Walks.{entry_so, entry_from, entry_with as entry_of_targets, published_there, undone_there};
 
 use crate::finding::targets_at;

@@ -5,7 +5,7 @@ ghost use Rattle.csi_types.specs.Model.Same.{same_text};
 ghost use Rattle.csi_controller.specs.Model.State.{ControllerState};
 ghost use Rattle.csi_node.specs.Model.Record.{parts};
 ghost use Rattle.csi_node.specs.Public.Record.{AreSoundRows};
-ghost use Rattle.csi_world.specs.Public.Recovered.{GivenNode};
+ghost use Rattle.csi_recovery.specs.Public.Recovered.{GivenNode};
 ghost use Rattle.csi_recovery.specs.Public.Rebuilding.{AreLike, IsUnlike};
 ghost use Rattle.csi_recovery.specs.Public.Judged.{IsKeptOf, AreGiven, HaveDistinctNodes, IsFirst, AreFit, IsUnfit};
 

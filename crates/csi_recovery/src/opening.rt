@@ -1,7 +1,7 @@
 //! The orchestrator itself, as its record's first session has it.
 ghost use Rattle.std.specs.Prelude.{◌≡◌, ◌≤◌, ◌+◌, List, IfOk, IfErr, OnOk};
 ghost use Rattle.csi_controller.specs.Model.State.{ControllerState};
-ghost use Rattle.csi_world.specs.Public.Recovered.{GivenNode, recovered as recovered_parts, MayRecover};
+ghost use Rattle.csi_recovery.specs.Public.Recovered.{GivenNode, recovered as recovered_parts, MayRecover};
 ghost use Rattle.csi_recovery.specs.Public.Judged.{IsKeptOf, AreGiven};
 ghost use Rattle.csi_recovery.specs.Public.Worlds.{MayRefuse};
 

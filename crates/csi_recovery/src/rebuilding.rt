@@ -8,7 +8,7 @@ ghost use Rattle.csi_orchestrator.specs.Model.Thing.{is_no};
 ghost use Rattle.csi_orchestrator.specs.Public.Judging.{IsFirstRefused};
 ghost use Rattle.csi_orchestrator.specs.Public.Shown.{node_entry_shown, row_shown};
 ghost use Rattle.csi_recovery.specs.declared.rebuilding_fault.RebuildingFault.{RebuildingFault as Fault};
-ghost use Rattle.csi_world.specs.Public.Rebuilt.{volume_with};
+ghost use Rattle.csi_recovery.specs.Public.Rebuilt.{volume_with};
 ghost use Rattle.csi_recovery.specs.Public.Rebuilding.{AreBelow, IsMadeOf, IsRebuiltOf, MayRebuild, IsRebuildingRefusal, is_below as below, kept_holding, kept_holdings, made_shown, row_made};
 ghost use Rattle.csi_recovery.specs.Private.Rebuilding.{passed_on_record, IsReady, IsUnready};
 

@@ -3,7 +3,7 @@ ghost use Rattle.std.specs.Prelude.{◌≡◌, List, IfOk, IfErr, OnOk};
 ghost use Rattle.std.specs.List.{AllByRecursion};
 ghost use Rattle.csi_controller.specs.Model.State.{ControllerState};
 ghost use Rattle.csi_orchestrator.specs.Public.Record.{AreNodesFit};
-ghost use Rattle.csi_world.specs.Public.Recovered.{GivenNode, recovered as recovered_parts, recovered_rows, MayRecover};
+ghost use Rattle.csi_recovery.specs.Public.Recovered.{GivenNode, recovered as recovered_parts, recovered_rows, MayRecover};
 ghost use Rattle.csi_recovery.specs.declared.fault.RecoveryFault.{RecoveryFault as Fault};
 ghost use Rattle.csi_recovery.specs.Public.Judged.{IsKeptOf, AreGiven, AreFit, IsFreeRow, record_of, IsRecoveryRefusal};
 

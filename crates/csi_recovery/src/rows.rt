@@ -2,7 +2,7 @@
 ghost use Rattle.std.specs.Prelude.{◌≡◌, filter, find, map, IfOk};
 ghost use Rattle.std.specs.Option.{option_copied};
 ghost use Rattle.csi_orchestrator.specs.Public.Shown.{node_entry_shown, row_shown};
-ghost use Rattle.csi_world.specs.Public.Recovered.{is_maybe, undoing, tries_for as tries_of_goal};
+ghost use Rattle.csi_recovery.specs.Public.Recovered.{is_maybe, undoing, tries_for as tries_of_goal};
 ghost use Rattle.csi_recovery.specs.Private.Walks.{row_from};
 
 use crate::entries::{entries, root};

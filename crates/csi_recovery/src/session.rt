@@ -1,7 +1,7 @@
 //! The session of a recovery.
 ghost use Rattle.std.specs.Prelude.{◌≡◌, ◌<◌, List, IfSome};
 ghost use Rattle.csi_controller.specs.Model.State.{ControllerState};
-ghost use Rattle.csi_world.specs.Public.Recovered.{GivenNode};
+ghost use Rattle.csi_recovery.specs.Public.Recovered.{GivenNode};
 ghost use Rattle.csi_recovery.specs.Public.Judged.{IsKeptOf, AreGiven, IsLater};
 ghost use Rattle.csi_recovery.specs.Public.Session.{recovery_session as session_above};
 ghost use Rattle.csi_recovery.specs.Private.Walks.{latest_kept};

@@ -1,5 +1,6 @@
 //! Worked recoveries. Each function proves a statement, and does nothing.
 ghost use Rattle.csi_recovery.specs.Private.Worked.{WorkedMay, WorkedRows};
+ghost use Rattle.csi_recovery.specs.Private.WorkedRebuilt.{WorkedRebuilt};
 
 fn rows()
     ensures { WorkedRows }
@@ -7,4 +8,8 @@ fn rows()
 
 fn may()
     ensures { WorkedMay }
+{}
+
+fn rebuilt()
+    ensures { WorkedRebuilt }
 {}

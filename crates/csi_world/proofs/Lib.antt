@@ -1,5 +1,5 @@
-mod Words
-mod Lemmas
+pub mod Words
+pub mod Lemmas
 pub mod MarksTold
 pub mod PartsSafe
 pub mod ListedNodes
@@ -35,19 +35,6 @@ pub mod NodesLost
 pub mod NodesJoined
 pub mod ChoicesRight
 pub mod WorldSafety
-pub mod MoreFrames
-pub mod CallsTold
-pub mod RaisedPlugins
-pub mod RecoveredRows
-pub mod RecoveredNumbers
-pub mod RecoveredPlugins
-pub mod RecoveredThings
-pub mod RecoveredWorlds
-pub mod RaisedWorlds
-pub mod RebuiltRows
-pub mod RebuiltThings
-pub mod RebuiltWorlds
-pub mod RecoverySafety
 pub mod RunSteps
 pub mod CarriedFrames
 pub mod SystemInputs
@@ -77,8 +64,4 @@ pub mod SettledFrames
 pub mod GoalCalls
 pub mod WaitingWorlds
 pub mod AnsweredWaits
-pub mod PlainReplies
-pub mod KeptCalls
-pub mod OpenCalls
-pub mod NeverStale
 pub mod RaisedNodes

@@ -4,6 +4,5 @@ pub mod Settling
 pub mod Listed
 pub mod Laws
 pub mod Worked
-pub mod WorkedRebuilt
 pub mod Telling
 pub mod Recovering

@@ -5,9 +5,6 @@ pub mod Settling
 pub mod Simulating
 pub mod System
 pub mod Laws
-pub mod Recovered
-pub mod Rebuilt
 pub mod Recovery
 pub mod Outcomes
 pub mod Given
-pub mod Stale

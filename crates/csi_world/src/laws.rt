@@ -2,7 +2,6 @@
 ghost use Rattle.csi_world.specs.Public.Audited.{AuditsTellSafety};
 ghost use Rattle.csi_world.specs.Private.Laws.{ChoicesAreSteps, EmptyIsSafe, RunsAreSteps};
 ghost use Rattle.csi_world.specs.Public.Laws.{RunsAreSafe, RunsSettle, SafetyLaw, TableLaws};
-ghost use Rattle.csi_world.specs.Public.Recovery.{RecoveryLaw};
 
 fn choices_are_steps()
     ensures { ChoicesAreSteps }
@@ -69,26 +68,6 @@ pub fn table_law()
 /// `csi_orchestrator`).
 pub fn safety_law()
     ensures { SafetyLaw }
-{
-    csi_controller::delivery_law();
-    csi_node::delivery_law();
-    csi_node::safety_law();
-}
-
-/// A law, and nothing that runs: an orchestrator whose store is lost is made of what its plugins keep (`recovered` of `csi_recovery`), or a
-/// controller whose store is lost of what its orchestrator keeps (`IsRebuilt`), and whatever comes then, every world is safe, as
-/// `safety_law` says it, though each frame that was ever sent may come still, at any time and any number of times. It is so after every
-/// run, however many recoveries of either kind follow one another, and wherever one was cut off: where the sessions of some of the plugins
-/// were raised, and nothing else was done. For an orchestrator's store the operator promises three things. The session is later
-/// than each one that the lost orchestrator began. A node whose store isn't given is off for good, and its store never comes back, as
-/// at the loss of a node. And the lost orchestrator and its store never come back: from then on all calls are the new one's. Where stores
-/// disagree, or the list of nodes leaves out one with something staged, nothing is recovered, and nothing said (`MayRecover`). What is
-/// made has a history, as each orchestrator has that was opened from a record, so that what contracts say of one is said of it. For a
-/// controller's store (`MayReplace`) the operator promises two: its next id isn't below the lost one's, which gave each smaller id perhaps; and
-/// the lost controller and its store never come back. Its session is later than the orchestrator's last, which next begins one that is no
-/// earlier; and the record is that of its last parts (`IsRecordOf`). This profile's own.
-pub fn recovery_law()
-    ensures { RecoveryLaw }
 {
     csi_controller::delivery_law();
     csi_node::delivery_law();

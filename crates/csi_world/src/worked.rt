@@ -2,7 +2,6 @@
 ghost use Rattle.csi_world.specs.Private.Worked.{WorkedUse, UseIsSafe, UseIsMadeOfSteps};
 ghost use Rattle.csi_world.specs.Private.Worked.{WorkedLateStage, WorkedLateDetach, WorkedLateReply, WorkedRestart, WorkedUndone, WorkedNothing};
 ghost use Rattle.csi_world.specs.Private.Worked.{WorkedLostNode, WorkedMadeAgain, WorkedRefusedChanges, WorkedSettling};
-ghost use Rattle.csi_world.specs.Private.WorkedRebuilt.{WorkedRebuilt};
 
 use crate::laws::{runs_are_steps, runs_law};
 
@@ -61,7 +60,3 @@ fn use_is_made_of_steps()
 {
     runs_are_steps();
 }
-
-fn rebuilt()
-    ensures { WorkedRebuilt }
-{}

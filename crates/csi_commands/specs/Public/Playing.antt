@@ -10,7 +10,7 @@ use Rattle.csi_world.specs.Model.After.{occurs}
 use Rattle.csi_world.specs.Model.Safe.{Safe}
 use Rattle.csi_world.specs.Model.Simulated.{WorldParts, ShowsRun}
 use Rattle.csi_world.specs.Model.World.{World, empty_world}
-use Rattle.csi_world.specs.Public.Recovery.{Recovers}
+use Rattle.csi_recovery.specs.Public.Laws.{Recovers}
 use Rattle.csi_recovery.specs.Public.Worlds as worlds
 
 -- what an operator says

@@ -8,7 +8,7 @@ use Rattle.csi_stores.specs.Public.Part.{put_all}
 use Rattle.csi_recovery.specs.declared.fault.RecoveryFault.{RecoveryFault}
 use Rattle.csi_recovery.specs.declared.fault.RecoveryFault.TheVariants as faults
 use Rattle.csi_recovery.specs.Public.Judged.{IsRecoveryRefusal}
-use Rattle.csi_world.specs.Public.Recovered.{GivenNode, recovered, MayRecover}
+use Rattle.csi_recovery.specs.Public.Recovered.{GivenNode, recovered, MayRecover}
 use Rattle.csi_recovery.specs.Public.Session.{recovery_session}
 use Rattle.csi_service.specs.Public.OrchestratorServices.{ServedOrchestrator}
 use Rattle.csi_embedded.specs.declared.ending.CallEnding.{CallEnding}

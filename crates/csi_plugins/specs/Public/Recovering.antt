@@ -8,7 +8,7 @@ use Rattle.csi_controller.specs.Model.State.{ControllerState}
 use Rattle.csi_controller.specs.Public.Views.{RecordParts}
 use Rattle.csi_node.specs.Model.Record.{NodeParts}
 use Rattle.csi_orchestrator.specs.Public.Record.{RecordParts as OrchestratorRecord}
-use Rattle.csi_world.specs.Public.Recovered.{GivenNode, recovered, MayRecover}
+use Rattle.csi_recovery.specs.Public.Recovered.{GivenNode, recovered, MayRecover}
 use Rattle.csi_recovery.specs.declared.fault.RecoveryFault.TheVariants.{SameNode, Disagrees, BadNodes, BadRow}
 use Rattle.csi_recovery.specs.Public.Judged.{IsKeptOf, AreGiven, record_of, IsRecoveryRefusal}
 use Rattle.csi_recovery.specs.Public.Session.{recovery_session}

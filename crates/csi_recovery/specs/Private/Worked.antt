@@ -15,7 +15,7 @@ use Rattle.csi_orchestrator.specs.declared.row.TargetEntry.{TargetEntry}
 use Rattle.csi_orchestrator.specs.declared.thing.Known.{Known}
 use Rattle.csi_orchestrator.specs.declared.thing.Known.TheVariants.{Yes, No, Maybe}
 use Rattle.csi_orchestrator.specs.Model.Shown.{NodeEntryShown}
-use Rattle.csi_world.specs.Public.Recovered.{GivenNode, recovered, MayRecover}
+use Rattle.csi_recovery.specs.Public.Recovered.{GivenNode, recovered, MayRecover}
 
 -- block access at several nodes, which may all write
 abbrev pub block : Capability

@@ -13,7 +13,7 @@ use Rattle.csi_orchestrator.specs.Model.Shown.{NodeEntryShown, RowShown, Orchest
 use Rattle.csi_orchestrator.specs.Public.Judging.{IsFirstRefused}
 use Rattle.csi_orchestrator.specs.Public.Record.{RecordParts, AreNodesFit}
 use Rattle.csi_orchestrator.specs.Public.Restored.{AreRestorable}
-use Rattle.csi_world.specs.Public.Recovered.{GivenNode, is_maybe, recovered_rows, Agree}
+use Rattle.csi_recovery.specs.Public.Recovered.{GivenNode, is_maybe, recovered_rows, Agree}
 use Rattle.csi_recovery.specs.declared.fault.RecoveryFault.{RecoveryFault}
 use Rattle.csi_recovery.specs.declared.fault.RecoveryFault.TheVariants.{SameNode, NotLater, Disagrees, BadNodes, BadRow, NoMemory}
 

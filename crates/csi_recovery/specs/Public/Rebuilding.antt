@@ -14,13 +14,13 @@ use Rattle.csi_orchestrator.specs.Model.Shown.{NodeEntryShown, RowShown}
 use Rattle.csi_orchestrator.specs.Model.Thing.{is_no}
 use Rattle.csi_orchestrator.specs.Public.Judging.{IsFirstRefused}
 use Rattle.csi_orchestrator.specs.Public.Record.{RecordParts}
-use Rattle.csi_world.specs.Public.Recovered.{GivenNode}
+use Rattle.csi_recovery.specs.Public.Recovered.{GivenNode}
 use Rattle.csi_recovery.specs.declared.fault.RecoveryFault.{RecoveryFault}
 use Rattle.csi_recovery.specs.declared.fault.RecoveryFault.TheVariants as recovery
 use Rattle.csi_recovery.specs.declared.rebuilding_fault.RebuildingFault.{RebuildingFault}
 use Rattle.csi_recovery.specs.declared.rebuilding_fault.RebuildingFault.TheVariants.{NumbersSpent, IdTaken, BadRow, NoMemory}
 use Rattle.csi_recovery.specs.Public.Judged.{IsKeptOf, HaveDistinctNodes, DoAgree, IsFirst}
-use Rattle.csi_world.specs.Public.Rebuilt.{IsRebuilt, rebuilt_volume}
+use Rattle.csi_recovery.specs.Public.Rebuilt.{IsRebuilt, rebuilt_volume}
 
 -- ---- ids
 

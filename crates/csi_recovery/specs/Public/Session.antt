@@ -1,7 +1,7 @@
 -- The session of a recovery. This profile's own.
 use Rattle.std.specs.Prelude.{ℕ, ◌+◌, ◌-◌, ◌^◌, max, nat_lt, List, [], ◌∷◌, Option, Some, None, if◌then◌else◌}
 use Rattle.csi_controller.specs.Model.State.{ControllerState}
-use Rattle.csi_world.specs.Public.Recovered.{GivenNode}
+use Rattle.csi_recovery.specs.Public.Recovered.{GivenNode}
 
 -- the greatest session that one of these nodes heard of, 0 where there is none
 abbrev pub latest_session : List GivenNode → ℕ

@@ -10,8 +10,9 @@ use Rattle.csi_world.specs.declared.outcomes.RecoveryRefusal.{RecoveryRefusal}
 use Rattle.csi_world.specs.declared.outcomes.RecoveryRefusal.TheVariants as refusals
 use Rattle.csi_world.specs.Model.Simulated.{WorldParts, ShowsWorld}
 use Rattle.csi_world.specs.Model.World.{World}
-use Rattle.csi_world.specs.Public.Recovered.{GivenNode, recovered, MayRecover}
-use Rattle.csi_world.specs.Public.Recovery.{given_of, recovered_world}
+use Rattle.csi_recovery.specs.Public.Recovered.{GivenNode, recovered, MayRecover}
+use Rattle.csi_world.specs.Public.Recovery.{recovered_world}
+use Rattle.csi_recovery.specs.Public.Laws.{given_of}
 use Rattle.csi_recovery.specs.declared.fault.RecoveryFault.{RecoveryFault}
 use Rattle.csi_recovery.specs.declared.fault.RecoveryFault.TheVariants.{SameNode, NotLater, Disagrees, BadNodes, BadRow, NoMemory}
 use Rattle.csi_recovery.specs.Public.Judged.{IsRecoveryRefusal}

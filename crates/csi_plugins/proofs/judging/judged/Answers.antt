@@ -1,7 +1,7 @@
 -- What is made of the records in the session of the recovery, or why nothing is.
 use Rattle.std.proofs.Common.{◌∙◌, ap, sym, subst, List, ℕ, Some}
 use Rattle.csi_orchestrator.specs.Public.Record.{RecordParts}
-use Rattle.csi_world.specs.Public.Recovered.{recovered, MayRecover}
+use Rattle.csi_recovery.specs.Public.Recovered.{recovered, MayRecover}
 use Rattle.csi_recovery.specs.Public.Judged.{record_of}
 use Rattle.csi_plugins.specs.Public.Recovering.{leave_out_used}
 use Rattle.csi_plugins.proofs.Refusing.{refused-by}

@@ -4,7 +4,7 @@ use Rattle.std.specs.List.{AllByRecursion}
 use Rattle.csi_controller.specs.Model.State.{ControllerState}
 use Rattle.csi_node.specs.Model.Record.{NodeParts, parts}
 use Rattle.csi_node.specs.Public.Record.{AreSoundRows}
-use Rattle.csi_world.specs.Public.Recovered.{GivenNode}
+use Rattle.csi_recovery.specs.Public.Recovered.{GivenNode}
 use Rattle.csi_recovery.specs.Public.Judged.{IsKeptOf, AreGiven, DoAgree}
 use Rattle.csi_recovery.proofs.agreeing.first_disagreeing.Given as goal
 

@@ -1,6 +1,6 @@
 -- The first ones are of different nodes.
 use Rattle.std.proofs.Common.{List, take}
-use Rattle.csi_world.specs.Public.Recovered.{GivenNode}
+use Rattle.csi_recovery.specs.Public.Recovered.{GivenNode}
 use Rattle.csi_recovery.specs.Public.Judged.{AreGiven, HaveDistinctNodes}
 use Rattle.csi_recovery.proofs.judging.first_same.Given as goal
 

@@ -10,7 +10,7 @@ use Rattle.csi_orchestrator.specs.Model.Shown.{RowShown}
 use Rattle.csi_orchestrator.specs.Public.Record.{RecordParts, IsRecordRefusal}
 use Rattle.csi_orchestrator.specs.Public.Restored.{IsRestorable, AreRestorable}
 use Rattle.csi_orchestrator.specs.Public.Shown.{row_shown}
-use Rattle.csi_world.specs.Public.Recovered.{recovered_rows}
+use Rattle.csi_recovery.specs.Public.Recovered.{recovered_rows}
 use Rattle.csi_recovery.specs.declared.fault.RecoveryFault.{RecoveryFault}
 use Rattle.csi_recovery.specs.Public.Judged.{AreFit, IsFreeRow, IsUnfit, IsRecoveryRefusal}
 use Rattle.csi_recovery.specs.Private.Walks.{passed_on, row_from}

@@ -6,7 +6,7 @@ use Rattle.csi_orchestrator.specs.declared.row.Goal.TheVariants.{Stop}
 use Rattle.csi_orchestrator.specs.declared.row.NodeEntry.{NodeEntry}
 use Rattle.csi_orchestrator.specs.Model.Shown.{NodeEntryShown}
 use Rattle.csi_orchestrator.specs.Public.Shown.{node_entry_shown}
-use Rattle.csi_world.specs.Public.Recovered.{root, is_maybe, undoing}
+use Rattle.csi_recovery.specs.Public.Recovered.{root, is_maybe, undoing}
 use Rattle.csi_recovery.proofs.rows.goal.Goals as goal
 
 -- by what is found

@@ -7,7 +7,7 @@ use Rattle.csi_types.specs.declared.holding.Holding.{Holding}
 use Rattle.csi_node.specs.Model.State.{StagedVolume, PublishedVolume}
 use Rattle.csi_orchestrator.specs.declared.row.TargetEntry.{TargetEntry}
 use Rattle.csi_orchestrator.specs.declared.thing.Known.TheVariants.{Yes, No}
-use Rattle.csi_world.specs.Public.Recovered.{GivenNode, Agree}
+use Rattle.csi_recovery.specs.Public.Recovered.{GivenNode, Agree}
 use Rattle.csi_recovery.specs.Private.Worked.{held, controller, first_given, second_given}
 use Rattle.csi_recovery.proofs.worked.may.Goals as goal
 

@@ -5,8 +5,8 @@ use Rattle.csi_node.specs.Model.Record.{NodeParts}
 use Rattle.csi_orchestrator.specs.Model.Readings.{last_number}
 use Rattle.csi_orchestrator.specs.Model.Shown.{OrchestratorParts, Shows}
 use Rattle.csi_world.specs.Model.Simulated.{AreNodesShown}
-use Rattle.csi_world.specs.Public.Recovered.{GivenNode, recovered, MayRecover}
-use Rattle.csi_world.specs.Public.Recovery.{given_of}
+use Rattle.csi_recovery.specs.Public.Recovered.{GivenNode, recovered, MayRecover}
+use Rattle.csi_recovery.specs.Public.Laws.{given_of}
 use Rattle.csi_recovery.specs.Public.Judged.{AreGiven}
 use Rattle.csi_recovery.specs.Public.Worlds.{Recovery, MayRefuse}
 use Rattle.csi_recovery.proofs.WorldsJudged.{records-given}

@@ -10,7 +10,7 @@ use Rattle.csi_orchestrator.specs.declared.row.Goal.TheVariants.{Create, Stop, D
 use Rattle.csi_orchestrator.specs.declared.thing.Known.{Known}
 use Rattle.csi_orchestrator.specs.declared.thing.Known.TheVariants.{Yes, No, Maybe}
 use Rattle.csi_orchestrator.specs.Model.Shown.{NodeEntryShown, RowShown}
-use Rattle.csi_world.specs.Public.Rebuilt.{IsRebuilt, kept_of_old}
+use Rattle.csi_recovery.specs.Public.Rebuilt.{IsRebuilt, kept_of_old}
 
 -- block access at several nodes, which may all write
 abbrev pub block : Capability

@@ -33,9 +33,9 @@ use Rattle.csi_world.proofs.KnownThings.{IsSoFar}
 use Rattle.csi_world.proofs.PluginsReached.{regular-named}
 use Rattle.csi_world.proofs.Deliveries.{all-closed}
 use Rattle.csi_world.proofs.RightWorlds.{IsRight}
-use Rattle.csi_world.proofs.RebuiltRows.{Rebuilding, old, controller, history, given, so_far, regular, volume-row}
-use Rattle.csi_world.proofs.RebuiltThings.{items, last-earlier, issued-low, was-there, node-stays, heard-stays, ids, now-heard, old-had, had-old, name-had, known-now, volume-heard, made-now, told-so, sent-so}
-use Rattle.csi_world.proofs.RebuiltThings.{frames, next}
+use Rattle.csi_recovery.proofs.RebuiltRows.{Rebuilding, old, controller, history, given, so_far, regular, volume-row}
+use Rattle.csi_recovery.proofs.RebuiltThings.{items, last-earlier, issued-low, was-there, node-stays, heard-stays, ids, now-heard, old-had, had-old, name-had, known-now, volume-heard, made-now, told-so, sent-so}
+use Rattle.csi_recovery.proofs.RebuiltThings.{frames, next}
 
 module _ (r : Rebuilding) where
   -- ---- ids

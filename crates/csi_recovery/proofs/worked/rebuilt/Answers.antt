@@ -2,8 +2,8 @@
 use Rattle.std.proofs.Common.{[], ◌∷◌, refl, arith}
 use Rattle.std.specs.Prelude.{codes}
 use Rattle.std.proofs.lemmas.List.Sorted.{IsPermutation-append_comm}
-use Rattle.csi_world.specs.Private.WorkedRebuilt.{volume}
-use Rattle.csi_world.proofs.worked.rebuilt.Goals as goal
+use Rattle.csi_recovery.specs.Private.WorkedRebuilt.{volume}
+use Rattle.csi_recovery.proofs.worked.rebuilt.Goals as goal
 
 pub returns : goal.returns
 returns c = record {

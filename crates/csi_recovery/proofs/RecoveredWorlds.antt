@@ -41,8 +41,9 @@ use Rattle.csi_orchestrator.specs.Model.Shown.{Shows}
 use Rattle.csi_orchestrator.specs.Public.Steps.{Opens}
 use Rattle.csi_orchestrator.specs.Public.Steps as steps
 use Rattle.csi_world.specs.Model.World.{NodeAt, World, node_state}
-use Rattle.csi_world.specs.Public.Recovered.{given_state, recovered}
-use Rattle.csi_world.specs.Public.Recovery.{is_given, given_of, raised_at, recovered_world}
+use Rattle.csi_recovery.specs.Public.Recovered.{given_state, recovered}
+use Rattle.csi_world.specs.Public.Recovery.{is_given, raised_at, recovered_world}
+use Rattle.csi_recovery.specs.Public.Laws.{given_of}
 use Rattle.csi_world.proofs.WorldView.{party_of, node_view, over_at}
 use Rattle.csi_world.proofs.GivenIds.{HasNow}
 use Rattle.csi_world.proofs.CallThings.{of-thing-at, plugin_thing_at}
@@ -58,13 +59,13 @@ use Rattle.csi_world.proofs.PluginsReached.{IsNodeOfFrames, IsReached}
 use Rattle.csi_world.proofs.Deliveries.{all-closed}
 use Rattle.csi_world.proofs.RightWorlds.{IsRight}
 use Rattle.csi_world.proofs.HeardNumbers.{sent-up}
-use Rattle.csi_world.proofs.MoreFrames.{with_frames}
-use Rattle.csi_world.proofs.CallsTold.{Tells, id_for}
-use Rattle.csi_world.proofs.RaisedPlugins.{raised-controller, raised-node, node-begun}
-use Rattle.csi_world.proofs.RecoveredRows.{found-live, found-holding}
-use Rattle.csi_world.proofs.RecoveredNumbers.{greater, session-before}
-use Rattle.csi_world.proofs.RecoveredPlugins.{Recovery, laws, old, right, nodes, given, session, may, controller, gs, kept_nodes, orderly, plugin, start, fitted, trail, issued, history, shows, form, frames, next, ids, are-given, came, of-controller, told, node-next, given-there, node-there, given-own, ids-volume, volume-ids, call-now, id-rule, old-reply, below, call-below, own-reply, at-node, spent-of, held-by, reply_to, answer_of, begun_at, as_given}
-use Rattle.csi_world.proofs.RecoveredThings.{issued-since, issued-before, never-over, volume-of, attached-known, attached-staged, staged-here, attached-latest, untouched}
+use Rattle.csi_recovery.proofs.MoreFrames.{with_frames}
+use Rattle.csi_recovery.proofs.CallsTold.{Tells, id_for}
+use Rattle.csi_recovery.proofs.RaisedPlugins.{raised-controller, raised-node, node-begun}
+use Rattle.csi_recovery.proofs.RecoveredRows.{found-live, found-holding}
+use Rattle.csi_recovery.proofs.RecoveredNumbers.{greater, session-before}
+use Rattle.csi_recovery.proofs.RecoveredPlugins.{Recovery, laws, old, right, nodes, given, session, may, controller, gs, kept_nodes, orderly, plugin, start, fitted, trail, issued, history, shows, form, frames, next, ids, are-given, came, of-controller, told, node-next, given-there, node-there, given-own, ids-volume, volume-ids, call-now, id-rule, old-reply, below, call-below, own-reply, at-node, spent-of, held-by, reply_to, answer_of, begun_at, as_given}
+use Rattle.csi_recovery.proofs.RecoveredThings.{issued-since, issued-before, never-over, volume-of, attached-known, attached-staged, staged-here, attached-latest, untouched}
 
 -- two functions that agree on what is among a list
 map-alike : {X Y : Type 0} (f g : X → Y) (xs : List X) → ((x : X) → IsAmong x xs → f x ≡ g x) → map f xs ≡ map g xs

@@ -30,9 +30,9 @@ use Rattle.csi_orchestrator.specs.Public.Shown.{AreTargetsApart}
 use Rattle.csi_orchestrator.proofs.FittedRows.{FitsTarget, FitsEntry, FitsGoal, FitsRow, all-fitted}
 use Rattle.csi_orchestrator.proofs.AllTold.{AreTold}
 use Rattle.csi_orchestrator.proofs.RowsOfRecord.{each-unmapped}
-use Rattle.csi_world.specs.Public.Recovered.{GivenNode, given_state, target_of, entry_by, entry_at, entry_of, is_maybe, undoing, tries_for, recovered_row, recovered_rows}
+use Rattle.csi_recovery.specs.Public.Recovered.{GivenNode, given_state, target_of, entry_by, entry_at, entry_of, is_maybe, undoing, tries_for, recovered_row, recovered_rows}
 use Rattle.csi_world.proofs.GivenIds.{live-named}
-use Rattle.csi_world.proofs.CallsTold.{IsVolume, FitsSo, IsTrail, first-trail, trail-grows}
+use Rattle.csi_recovery.proofs.CallsTold.{IsVolume, FitsSo, IsTrail, first-trail, trail-grows}
 
 -- of a list, what isn't set apart by what sets each two apart is one
 pub two-same : {X : Type 0} (R : X → X → Type 0) (xs : List X) (x y : X) → EachTwo R xs → IsAmong x xs → IsAmong y xs → (R x y → ⊥) → (R y x → ⊥) → x ≡ y

@@ -43,11 +43,12 @@ use Rattle.csi_orchestrator.specs.Model.Shown.{Shows}
 use Rattle.csi_orchestrator.proofs.AllTold.{AreTold, started-told}
 use Rattle.csi_world.specs.Model.World.{NodeAt, World, node_state}
 use Rattle.csi_world.specs.Model.Safe.{Safe}
-use Rattle.csi_world.specs.Public.Recovered.{GivenNode, given_state, recovered_rows, recovered, MayRecover}
-use Rattle.csi_world.specs.Public.Recovery.{is_given, given_of}
+use Rattle.csi_recovery.specs.Public.Recovered.{GivenNode, given_state, recovered_rows, recovered, MayRecover}
+use Rattle.csi_world.specs.Public.Recovery.{is_given}
+use Rattle.csi_recovery.specs.Public.Laws.{given_of}
 use Rattle.csi_world.proofs.WorldView.{node_view, over_at, view_of}
 use Rattle.csi_world.proofs.GivenIds.{GivenId, HasNow, HasOld, HasName, AreGiven, AreOf}
-use Rattle.csi_world.proofs.RecoveredNumbers.{session-before, far, earlier-one}
+use Rattle.csi_recovery.proofs.RecoveredNumbers.{session-before, far, earlier-one}
 use Rattle.csi_world.proofs.CallThings.{of-thing-at, IsOwnNow, plugin_thing_at, is_of, one-number}
 use Rattle.csi_world.proofs.Lifetimes.{is-over}
 use Rattle.csi_world.proofs.RepliesTold.{reply-parts}
@@ -57,8 +58,8 @@ use Rattle.csi_world.proofs.Deliveries.{PluginLaws}
 use Rattle.csi_world.proofs.RightWorlds.{IsRight}
 use Rattle.csi_world.proofs.HeardNumbers.{IsUpTo, up-session}
 use Rattle.csi_world.proofs.WorldSafety.{right-safe}
-use Rattle.csi_world.proofs.CallsTold.{IsVolume, Tells, id_for, IsTrail}
-use Rattle.csi_world.proofs.RecoveredRows.{two-same, text-self, found-live, told-rows}
+use Rattle.csi_recovery.proofs.CallsTold.{IsVolume, Tells, id_for, IsTrail}
+use Rattle.csi_recovery.proofs.RecoveredRows.{two-same, text-self, found-live, told-rows}
 
 -- what a recovery starts from
 pub record Recovery : Type 0 where

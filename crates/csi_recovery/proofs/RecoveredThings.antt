@@ -33,7 +33,7 @@ use Rattle.csi_orchestrator.specs.Model.Readings.{issued_in, known_by, known}
 use Rattle.csi_orchestrator.specs.Model.Shown.{NodeEntryShown, RowShown, row_of, node_entry_of, mark_in, mark_of, publication_known}
 use Rattle.csi_orchestrator.specs.Public.Restored.{IsRestorable}
 use Rattle.csi_world.specs.Model.World.{node_state}
-use Rattle.csi_world.specs.Public.Recovered.{given_state, target_of, entry_by, entry_at, entry_of, recovered_row, recovered_rows}
+use Rattle.csi_recovery.specs.Public.Recovered.{given_state, target_of, entry_by, entry_at, entry_of, recovered_row, recovered_rows}
 use Rattle.csi_world.proofs.WorldView.{node_view, over_at}
 use Rattle.csi_world.proofs.GivenIds.{HasNow, HasName}
 use Rattle.csi_world.proofs.CallThings.{IsOwn, IsOne, Existence, Attachment, Staging, Publication, is_of}
@@ -42,9 +42,9 @@ use Rattle.csi_world.proofs.NamedCalls.{for-weaker, of-then-touches, touches-the
 use Rattle.csi_world.proofs.KnownThings.{one-named}
 use Rattle.csi_world.proofs.PluginSafety.{staged_there}
 use Rattle.csi_world.proofs.PluginsReached.{IsNodeOfFrames}
-use Rattle.csi_world.proofs.CallsTold.{IsPlain, plain-since, plain-from, plain-ends, plain-over}
-use Rattle.csi_world.proofs.RecoveredRows.{two-same, text-self, entry-is}
-use Rattle.csi_world.proofs.RecoveredPlugins.{Recovery, laws, old, right, nodes, session, may, controller, gs, live, orderly, plugin, safe, fitted, trail, issued, history, shows, next, ids, are-given, told, node-next, given-there, volume-ids, call-now, at-node, published_as}
+use Rattle.csi_recovery.proofs.CallsTold.{IsPlain, plain-since, plain-from, plain-ends, plain-over}
+use Rattle.csi_recovery.proofs.RecoveredRows.{two-same, text-self, entry-is}
+use Rattle.csi_recovery.proofs.RecoveredPlugins.{Recovery, laws, old, right, nodes, session, may, controller, gs, live, orderly, plugin, safe, fitted, trail, issued, history, shows, next, ids, are-given, told, node-next, given-there, volume-ids, call-now, at-node, published_as}
 
 -- no such item ends a thing by its name
 plain-kept : (thing : Thing) (item : Item) → IsPlain item → readings.ends thing item ≡ false

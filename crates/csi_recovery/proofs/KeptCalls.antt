@@ -11,7 +11,7 @@ use Rattle.csi_controller.proofs.TableOutcomes as controller_outcomes
 use Rattle.csi_node.specs.Model.Table as node_table
 use Rattle.csi_node.specs.Model.Fenced as nodes
 use Rattle.csi_world.proofs.NamedCalls.{own}
-use Rattle.csi_world.proofs.PlainReplies.{IsPlain, ControllerPlain, controller-plain, node-plain}
+use Rattle.csi_recovery.proofs.PlainReplies.{IsPlain, ControllerPlain, controller-plain, node-plain}
 
 -- ---- what rows keep
 

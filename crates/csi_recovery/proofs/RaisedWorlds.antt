@@ -16,7 +16,7 @@ use Rattle.csi_controller.proofs.NamesLaw.{keeps_names}
 use Rattle.csi_node.specs.Model.Fenced as nodes
 use Rattle.csi_node.specs.Public.View as node_views
 use Rattle.csi_node.proofs.DeliveryLaw as node_things
-use Rattle.csi_world.specs.Public.Recovery.{node_raised, plugin_raised}
+use Rattle.csi_recovery.specs.Public.Laws.{node_raised, plugin_raised}
 use Rattle.csi_world.proofs.WorldView.{node_view, over_at, view_of}
 use Rattle.csi_world.proofs.GivenIds.{GivenId, AreOf, stays-forgotten, is_forgotten}
 use Rattle.csi_world.proofs.Lifetimes.{latest}
@@ -31,7 +31,7 @@ use Rattle.csi_world.proofs.Floors.{HasFloor, floor-with_state}
 use Rattle.csi_world.proofs.DeliveredCalls.{with_plugins}
 use Rattle.csi_world.proofs.Deliveries.{PluginLaws, all-closed, names-stay}
 use Rattle.csi_world.proofs.RightWorlds.{IsRight}
-use Rattle.csi_world.proofs.RaisedPlugins.{number_of, controller_frame, controller-same, node_frame, node-same}
+use Rattle.csi_recovery.proofs.RaisedPlugins.{number_of, controller_frame, controller-same, node_frame, node-same}
 
 -- all is there as it was, no fewer numbers are spent, and what is kept was kept
 pub record KeepsView (old new : PluginView) : Type 0 where

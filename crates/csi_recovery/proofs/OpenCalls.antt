@@ -20,8 +20,8 @@ use Rattle.csi_node.specs.Model.Fenced as nodes
 use Rattle.csi_world.proofs.CallThings.{IsOwn, ComesAfter}
 use Rattle.csi_world.proofs.GivenIds.{GivenId, HasName, AreGiven, AreOf, id-named}
 use Rattle.csi_world.proofs.NamedCalls.{own}
-use Rattle.csi_world.proofs.PlainReplies.{controller-plain, node-plain}
-use Rattle.csi_world.proofs.KeptCalls.{IsCalled, ControllerKeeps, NodeKeeps}
+use Rattle.csi_recovery.proofs.PlainReplies.{controller-plain, node-plain}
+use Rattle.csi_recovery.proofs.KeptCalls.{IsCalled, ControllerKeeps, NodeKeeps}
 
 -- ---- open calls
 

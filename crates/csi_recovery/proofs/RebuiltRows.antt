@@ -31,8 +31,8 @@ use Rattle.csi_orchestrator.specs.Public.Restored.{IsRestorable, AreRestorable}
 use Rattle.csi_orchestrator.specs.Public.Shown.{closed}
 use Rattle.csi_orchestrator.specs.Public.Steady.{CanBeBeside}
 use Rattle.csi_world.specs.Model.World.{World}
-use Rattle.csi_world.specs.Public.Rebuilt.{volume_with, volume_by, rebuilt_volume, rebuilt_volumes, rebuilt_holding, holdings_with}
-use Rattle.csi_world.specs.Public.Recovery.{MayReplace}
+use Rattle.csi_recovery.specs.Public.Rebuilt.{volume_with, volume_by, rebuilt_volume, rebuilt_volumes, rebuilt_holding, holdings_with}
+use Rattle.csi_recovery.specs.Public.Laws.{MayReplace}
 use Rattle.csi_world.proofs.GivenIds.{GivenId, HasNow}
 use Rattle.csi_world.proofs.HeardReplies.{id-given}
 use Rattle.csi_world.proofs.Forgotten.{told_by}
@@ -40,7 +40,7 @@ use Rattle.csi_world.proofs.KnownThings.{IsSoFar}
 use Rattle.csi_world.proofs.PluginsReached.{IsRegular}
 use Rattle.csi_world.proofs.Deliveries.{PluginLaws}
 use Rattle.csi_world.proofs.RightWorlds.{IsRight}
-use Rattle.csi_world.proofs.RecoveredRows.{two-same, text-self}
+use Rattle.csi_recovery.proofs.RecoveredRows.{two-same, text-self}
 
 -- what a controller that takes a lost one's place starts from
 pub record Rebuilding : Type 0 where

@@ -18,7 +18,7 @@ use Rattle.csi_types.specs.declared.frame.Body.TheVariants as bodies
 use Rattle.csi_controller.specs.Model.Fenced as controllers
 use Rattle.csi_node.specs.Model.Fenced as nodes
 use Rattle.csi_world.specs.Public.Laws.{HoldsInEveryWorld}
-use Rattle.csi_world.specs.Public.Stale.{TellsNoneStale}
+use Rattle.csi_recovery.specs.Public.Stale.{TellsNoneStale}
 use Rattle.csi_world.proofs.PluginsReached.{found-at, knows-nothing}
 use Rattle.csi_world.proofs.CallThings.{IsOwn, one-number, before-irreflexive}
 use Rattle.csi_world.proofs.Deliveries.{PluginLaws}
@@ -30,8 +30,8 @@ use Rattle.csi_world.proofs.HeardNumbers.{HasHeard, all-heard, empty-heard}
 use Rattle.csi_world.proofs.JudgedCalls.{call-so, low-call}
 use Rattle.csi_world.proofs.Floors.{under}
 use Rattle.csi_world.proofs.RepliesTold.{IsSent}
-use Rattle.csi_world.proofs.KeptCalls.{IsCalled, ControllerKeeps, NodeKeeps, controller-keeps, node-keeps}
-use Rattle.csi_world.proofs.OpenCalls.{open-latest, is_late, IsPlainReply, parts-plain, IsNewest, controller-answers, node-answers, IsNumbered, answer-numbered, node-numbered}
+use Rattle.csi_recovery.proofs.KeptCalls.{IsCalled, ControllerKeeps, NodeKeeps, controller-keeps, node-keeps}
+use Rattle.csi_recovery.proofs.OpenCalls.{open-latest, is_late, IsPlainReply, parts-plain, IsNewest, controller-answers, node-answers, IsNumbered, answer-numbered, node-numbered}
 
 -- ---- worlds
 

@@ -13,20 +13,21 @@ use Rattle.csi_orchestrator.specs.Model.Thing.{Issued}
 use Rattle.csi_orchestrator.specs.Model.Readings.{last_number, open_call}
 use Rattle.csi_world.specs.Model.World.{World, empty_world, node_state}
 use Rattle.csi_world.specs.Model.Safe.{Safe}
-use Rattle.csi_world.specs.Public.Recovered.{MayRecover}
-use Rattle.csi_world.specs.Public.Recovery.{given_of, node_raised, plugin_raised, recovered_world, rebuilt_world, MayReplace, Recovers, StaysSafe, RecoveryLaw}
+use Rattle.csi_recovery.specs.Public.Recovered.{MayRecover}
+use Rattle.csi_world.specs.Public.Recovery.{recovered_world}
+use Rattle.csi_recovery.specs.Public.Laws.{given_of, node_raised, plugin_raised, rebuilt_world, MayReplace, Recovers, StaysSafe, RecoveryLaw}
 use Rattle.csi_world.specs.Public.Step.{Choice, Sends, Takes, Answers, MayChoose, MayChooseAll, chosen, chosen_all}
 use Rattle.csi_world.proofs.PluginsReached.{still-reached}
 use Rattle.csi_world.proofs.Deliveries.{PluginLaws}
 use Rattle.csi_world.proofs.RightWorlds.{IsRight}
 use Rattle.csi_world.proofs.ChoicesRight.{starts-right, empty-right, chosen-right}
 use Rattle.csi_world.proofs.WorldSafety.{right-safe}
-use Rattle.csi_world.proofs.MoreFrames.{with_frames, AreMore, LeadsOn, chosen-more, IsDead, more-later, dead-nothing, IsOpenNow, chosen-open, chosen-grows, safe-fewer}
-use Rattle.csi_world.proofs.RaisedWorlds.{raised-right}
-use Rattle.csi_world.proofs.RebuiltRows.{Rebuilding}
-use Rattle.csi_world.proofs.RebuiltThings.{frames, next, begins-later, fewer}
-use Rattle.csi_world.proofs.RebuiltWorlds.{next-right}
-use Rattle.csi_world.proofs.RecoveredWorlds.{IsMade, is-made}
+use Rattle.csi_recovery.proofs.MoreFrames.{with_frames, AreMore, LeadsOn, chosen-more, IsDead, more-later, dead-nothing, IsOpenNow, chosen-open, chosen-grows, safe-fewer}
+use Rattle.csi_recovery.proofs.RaisedWorlds.{raised-right}
+use Rattle.csi_recovery.proofs.RebuiltRows.{Rebuilding}
+use Rattle.csi_recovery.proofs.RebuiltThings.{frames, next, begins-later, fewer}
+use Rattle.csi_recovery.proofs.RebuiltWorlds.{next-right}
+use Rattle.csi_recovery.proofs.RecoveredWorlds.{IsMade, is-made}
 
 -- all is kept of a world, if more frames are under way, and without replies that are dead
 pub record IsKept (world : World) : Type 0 where

@@ -40,7 +40,7 @@ use Rattle.csi_orchestrator.specs.Model.Readings.{id_in, id_of, issued_in, has_s
 use Rattle.csi_orchestrator.specs.Model.Shown.{NodeEntryShown, RowShown, held_at, mark_in, node_entry_of}
 use Rattle.csi_orchestrator.specs.Public.Record.{RecordParts}
 use Rattle.csi_world.specs.Model.World.{World}
-use Rattle.csi_world.specs.Public.Rebuilt.{volume_with, WasAsked}
+use Rattle.csi_recovery.specs.Public.Rebuilt.{volume_with, WasAsked}
 use Rattle.csi_world.proofs.WorldView.{party_of, view_of}
 use Rattle.csi_world.proofs.GivenIds.{GivenId, HasNow, HasOld, HasName, live-named}
 use Rattle.csi_world.proofs.CallThings.{IsFor, IsAnsweredOk, Attachment, plugin_thing_at, is_plugin_thing, is_of, is_making, of-thing-at, of_thing}
@@ -54,9 +54,9 @@ use Rattle.csi_world.proofs.Forgotten.{told_by, ended-detached}
 use Rattle.csi_world.proofs.KnownThings.{asked-undoing, exists-found, latest-by_name, yes-done}
 use Rattle.csi_world.proofs.GuardedCalls.{attached-call, attached-now, held-latest}
 use Rattle.csi_world.proofs.HeardNumbers.{up-session}
-use Rattle.csi_world.proofs.MoreFrames.{IsDead}
-use Rattle.csi_world.proofs.RecoveredRows.{found-holding, text-self}
-use Rattle.csi_world.proofs.RebuiltRows.{Rebuilding, holding_so, old, controller, history, given, so_far, rows, parts, shows, orderly, regular, row-id, row-exists, row-attached, row-held, row-there, row-now, named-entry, volume-row, row-volume, holding-row, row-holding}
+use Rattle.csi_recovery.proofs.MoreFrames.{IsDead}
+use Rattle.csi_recovery.proofs.RecoveredRows.{found-holding, text-self}
+use Rattle.csi_recovery.proofs.RebuiltRows.{Rebuilding, holding_so, old, controller, history, given, so_far, rows, parts, shows, orderly, regular, row-id, row-exists, row-attached, row-held, row-there, row-now, named-entry, volume-row, row-volume, holding-row, row-holding}
 
 -- ---- which replies are left out
 

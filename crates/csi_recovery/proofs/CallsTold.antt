@@ -23,7 +23,7 @@ use Rattle.csi_orchestrator.specs.Model.History.{Item, Started, Lost, Forgotten,
 use Rattle.csi_orchestrator.specs.Model.Readings.{since, issued_by, issued_in, id_of, last_in, last_number}
 use Rattle.csi_orchestrator.specs.Model.WellFormed.{IsNextNumber}
 use Rattle.csi_orchestrator.proofs.FittedRows.{IsIdRight, Grows}
-use Rattle.csi_world.specs.Public.Recovered.{GivenNode, given_state}
+use Rattle.csi_recovery.specs.Public.Recovered.{GivenNode, given_state}
 use Rattle.csi_world.proofs.CallThings.{is_making, ComesAfter}
 use Rattle.csi_world.proofs.Lifetimes.{ends, from, calls_since, over_in}
 use Rattle.csi_world.proofs.CreatesFirst.{IsKnown, CreatesFirst, known-later, heard-known, known-heard, first-noted}
