@@ -5,7 +5,6 @@ import (
 	"fmt"
 	"os"
 	"os/exec"
-	"path/filepath"
 	"strconv"
 	"sync"
 	"syscall"
@@ -142,12 +141,11 @@ func each(t *testing.T, its eachCall, it outcome) {
 	}
 	box, ctx := newBox(t, options), soon(t)
 	box.behind.ID = func(string) string { return eachID }
-	running := box.run()
-	box.client = upstreamtest.Dial(t, filepath.Join(box.folder, "d", "csi.sock"))
+	box.start()
 	for _, method := range its.before {
 		box.does(ctx, method, messages[method])
 	}
-	running = box.fails(ctx, running, its, it)
+	box.fails(ctx, its, it)
 	// What may be there lets nothing else in: from the commit before what is done on, or to the one after what is undone.
 	stands := it.kill != -1
 	if its.undoes {
@@ -166,16 +164,14 @@ func each(t *testing.T, its eachCall, it outcome) {
 	}
 	box.does(ctx, its.method, messages[its.method])
 	box.settled(ctx, its.method)
-	running.Process.Signal(syscall.SIGTERM)
-	running.Wait()
 }
 
-// fails makes a call that comes to this, and gives the driver that runs afterwards.
-func (box *box) fails(ctx context.Context, running *exec.Cmd, its eachCall, it outcome) *exec.Cmd {
+// fails makes a call that comes to this. A driver that is to be killed is a process of its own meanwhile.
+func (box *box) fails(ctx context.Context, its eachCall, it outcome) {
 	box.Helper()
-	if it.kill != 0 {
-		running.Process.Kill()
-		running.Wait()
+	var running *exec.Cmd
+	if it.kills || it.kill != 0 {
+		box.end()
 		os.Setenv(killAt, fmt.Sprint(it.kill))
 		running = box.run()
 		os.Unsetenv(killAt)
@@ -202,7 +198,7 @@ func (box *box) fails(ctx context.Context, running *exec.Cmd, its eachCall, it o
 	if it.name == "late" {
 		givesUp()
 	}
-	if it.kills || it.kill != 0 {
+	if running != nil {
 		running.Wait()
 	}
 	if err := <-ended; err == nil {
@@ -212,10 +208,9 @@ func (box *box) fails(ctx context.Context, running *exec.Cmd, its eachCall, it o
 	if it.fault.Die {
 		box.behind.Restart()
 	}
-	if it.kills || it.kill != 0 {
-		return box.run()
+	if running != nil {
+		box.start()
 	}
-	return running
 }
 
 // asks makes a call once the driver is there.
