@@ -79,7 +79,7 @@ impl Controller {
     /// greatest that came is refused as stale. One of a later session begins it: the volumes that were deleted before are forgotten,
     /// and then it is answered. A reply and another plugin's call get no answer, change nothing and take no memory. None is taken by a
     /// DeleteVolume and a ControllerUnpublishVolume that the table answers with `Ok`, nor by a kept reply without a detail that is
-    /// given again. A refusal for want of memory leaves the controller as it was.
+    /// given again. A refusal as out of memory leaves the controller as it was.
     pub fn step(&mut self, frame: &Frame) -> Result<Option<Frame>, CoreFault>
         // the answer and the new state are the definition's
         ensures reply { (state : ControllerState) → Shows self.old state → IfOk result (λ reply. reply ≡ (fenced self.old.config state frame.now).reply) }
@@ -100,7 +100,7 @@ impl Controller {
     /// Answers a call as `step` answers a frame of it, by the kind and the reply that the frame of the answer has (those that were
     /// kept, where the call comes again), and says where the row is that it changed or made. Another plugin's call, and a call
     /// with a text outside its limits, which no frame has, get no answer, change nothing and take no memory. Beyond that it
-    /// takes memory where `step` does. A refusal for want of memory leaves the controller as it was.
+    /// takes memory where `step` does. A refusal as out of memory leaves the controller as it was.
     #[inline(always)]
     pub fn answer(
         &mut self,

@@ -1,5 +1,5 @@
 //! Refused growths. With memory to spare these tests compare the whole answers. Run with one allocation refused, each
-//! in turn (`tools/refusals`), they see want of memory and nothing changed, and then the whole answer.
+//! in turn (`tools/refusals`), they see that memory is out and that nothing changed, and then the whole answer.
 use crate::vectors::{CREATE, DELETE, PUBLISH};
 use csi_frames::{FaultKind, Splitter, decode, encode};
 use csi_types::Frame;

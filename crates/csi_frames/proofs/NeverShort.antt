@@ -144,7 +144,7 @@ waiting bytes kind place (too_long long much) is_short = absurd cc
 waiting bytes kind place (short long few less) is_short = (omega arith, refl)
 waiting bytes kind place (in_body k p whole few s) is_short = absurd (stuck (take (big_number 4 bytes) (drop 4 bytes)) k p s is_short)
 
--- want of memory is no fault of bytes: its place is 0, which in them is the length's alone
+-- out of memory is no fault of bytes: its place is 0, which in them is the length's alone
 pub never-memory : (bytes : List ℕ) (kind : FaultKind) (place : ℕ) → IsFaulty bytes kind place → kind ≡ NoMemory → place ≡ 0 → ⊥
 never-memory bytes kind place (no_length few) is at = absurd cc
 never-memory bytes kind place (too_long long much) is at = absurd cc

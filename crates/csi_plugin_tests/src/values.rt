@@ -1,6 +1,6 @@
 //! Makers of values.
 //!
-//! What a maker is given is within the limits, so it fails for want of memory alone, and then tries once more: a run
+//! What a maker is given is within the limits, so it fails only where it is out of memory, and then tries once more: a run
 //! refuses one allocation at most (`tools/refusals`). So what a test is made of is there in every run,
 //! and the call under test is the one that sees the refusal, or none does.
 use csi_types::{

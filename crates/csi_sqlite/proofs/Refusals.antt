@@ -10,7 +10,7 @@ use Rattle.csi_stores.specs.declared.keep.KeepFault.TheVariants.{Device, NoMemor
 use Rattle.csi_sqlite.specs.Private.Tables.{IsCounted}
 use Rattle.csi_sqlite.specs.Public.Refusals.{IsToldFault, WantsMemory, IsToldOfCopies, MakesChange}
 
--- an error is told as a failing device where it isn't want of memory
+-- an error is told as a failing device where it isn't out of memory
 pub told : (P : Error → Type 0) (before after : ℕ) (error : Error) (fault : KeepFault) → IsCounted before after fault → ((fault ≡ NoMemory) ↔ (error ≡ SqliteFailure OutOfMemory)) → P error → IsToldFault P fault
 told P before after error Device counted memory refuses = (error, λ is. absurd (let e = memory.1 is in cc), refuses)
 told P before after error NoMemory counted memory refuses = subst P (memory.0 refl) refuses

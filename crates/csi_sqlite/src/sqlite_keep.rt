@@ -68,7 +68,7 @@ fn is_memory(error: &Error) -> bool
     matches!(error, Error::SqliteFailure(ErrorCode::OutOfMemory))
 }
 
-// What an error at opening is to the keeper: want of memory, or a failing device.
+// What an error at opening is to the keeper: out of memory, or a failing device.
 fn told(error: &Error) -> KeepFault
     ensures memory { (result ≡ KeepFault.NoMemory) ↔ (error.now ≡ Error.SqliteFailure ErrorCode.OutOfMemory) }
     ensures cause { (result ≡ KeepFault.Device) ⊎ (result ≡ KeepFault.NoMemory) }
@@ -80,7 +80,7 @@ fn told(error: &Error) -> KeepFault
     }
 }
 
-// What a refusal is to the keeper; all but want of memory is a failure, and counted. A count of 2^64 - 1 stays.
+// What a refusal is to the keeper; all but out of memory is a failure, and counted. A count of 2^64 - 1 stays.
 fn refused(faults: &mut u64, error: &Error) -> KeepFault
     ensures counted { IsCounted faults.old faults.new result }
     ensures once { CountsFault faults.old faults.new result }
@@ -97,7 +97,7 @@ fn refused(faults: &mut u64, error: &Error) -> KeepFault
 impl<S: Alter> SqliteKeep<S> {
     /// A store in this database, in which the table `parts` is made where nothing is listed. A database that lists that table as it is
     /// declared, alone, is taken as it is, and one that lists anything else is refused, as it is. At a refusal the connection comes back:
-    /// `Device` stands for all but want of memory, as for a transaction that is open; where none is open, and nothing else is listed, it
+    /// `Device` stands for all but out of memory, as for a transaction that is open; where none is open, and nothing else is listed, it
     /// is what SQLite answers to the statement that makes the table.
     pub fn new(
         alloc: Global,

@@ -32,7 +32,7 @@ abbrev pub Slice : Type 0 → Type 0
 Slice H = State (Appending H) (Unit {0}) (Vec ℕ)
 
 module _ {H : Type 0} (has_handled : H → List Frame → Type 0) (gives : List Frame → List ℕ → Type 0) where
-  -- a frame is given for, and nothing is ever written; it stops for want of memory
+  -- a frame is given for, and nothing is ever written; it stops out of memory
   abbrev pub appends : Slice H → ℕ → Frame → Slice H → Type 0
   appends old place frame new = Gives has_handled gives old.own.handler place frame new.own.handler old.out.items new.out.items
 

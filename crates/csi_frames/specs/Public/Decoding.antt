@@ -7,7 +7,7 @@ use Rattle.csi_frames.specs.Public.Spelling.{BeginsWith}
 use Rattle.csi_frames.specs.Public.Fault.{IsFaulty}
 use Rattle.csi_frames.specs.declared.fault.FaultKind.{FaultKind}
 
--- want of memory, told as a fault at the front
+-- out of memory, told as a fault at the front
 abbrev pub no_memory : FrameFault
 no_memory = record { kind = NoMemory; place = 0 }
 

@@ -6,7 +6,7 @@ use Rattle.csi_json.specs.declared.values.Flaw.TheVariants.{Bad, NoMemory}
 
 -- ---- what functions answer
 
--- What a function answered, as it is shown, is what is read; of want of memory nothing is said.
+-- What a function answered, as it is shown, is what is read; where it is out of memory nothing is said.
 abbrev pub Reads : {A B : Type 0} → (A → B) → Result A Flaw → Option B → Type 0
 Reads shown (Ok value) read = read ≡ Some (shown value)
 Reads shown (Err Bad) read = read ≡ None

@@ -33,7 +33,7 @@ pub record IsFirstBad (rows : List Row) (place : ℕ) : Type 0 where
   pub bad : IsNoPart row
   pub earlier : (parts : List StoredPart) × AllZip IsRowOfPart (take place rows) parts
 
--- Why rows of these columns aren't given: BadRecord has the place, by rising key, of the first row that is no part. Want of memory and
+-- Why rows of these columns aren't given: BadRecord has the place, by rising key, of the first row that is no part. Out of memory and
 -- a failing device may come at any time.
 abbrev pub IsNotGiven : List Row → KeepFault → Type 0
 IsNotGiven columns Device = ⊤

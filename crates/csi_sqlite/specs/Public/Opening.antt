@@ -23,7 +23,7 @@ use Rattle.csi_sqlite.specs.Public.Tables.{StoresParts, HoldsParts}
 
 -- ---- why it isn't opened
 
--- SQLite refused to open these copies in memory, by an error that is told: want of memory as that, and any other as a failing device
+-- SQLite refused to open these copies in memory, by an error that is told: out of memory as that, and any other as a failing device
 pub record RefusesFiles {D : Type 0} (g : Ghosts D) (files : Files D) (fault : KeepFault) : Type 0 where
   pub rest : Leftover D g
   pub told : IsCleanLeft rest → IsToldOfCopies (FailsToOpenFiles files rest) fault

@@ -16,14 +16,14 @@ use Rattle.csi_stores.specs.declared.keep.KeepFault.TheVariants.{Device, NoMemor
 use Rattle.csi_stores.specs.Public.Part.{StoredChange}
 use Rattle.csi_sqlite.specs.Public.Loading.{IsFirstBad}
 
--- SQLite refused by an error, and that is told: want of memory as that, any other error as a failing device
+-- SQLite refused by an error, and that is told: out of memory as that, any other error as a failing device
 abbrev pub IsToldFault : (Error → Type 0) → KeepFault → Type 0
 IsToldFault Refuses Device = (error : Error) × (error ≢ SqliteFailure OutOfMemory) × Refuses error
 IsToldFault Refuses NoMemory = Refuses (SqliteFailure OutOfMemory)
 IsToldFault Refuses (BadRecord place) = ⊥
 IsToldFault Refuses Full = ⊥
 
--- The same of copies in memory. Nothing of their disks fails but an allocation, so that a failing one is told as want of memory too.
+-- The same of copies in memory. Nothing of their disks fails but an allocation, so that a failing one is told as out of memory too.
 abbrev pub WantsMemory : Error → Type 0
 WantsMemory error = (error ≡ SqliteFailure OutOfMemory) ⊎ (error ≡ SqliteFailure SystemIoFailure)
 

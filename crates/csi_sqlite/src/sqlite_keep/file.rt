@@ -68,7 +68,7 @@ pub(crate) fn kept_files<D: Disk + Drop>(
 impl<S: Start> SqliteKeep<FileStore<FileFrom<S>>> {
     /// The store in the SQLite file at this path, which is made where there is none, as is the table `parts`. `S` stands for what the
     /// file and its log held, and for how a crash is read. It has no part where the file was new, or empty. `Device` stands for all refusals
-    /// but want of memory: the path can't be opened, another process has the file, or it is no database that may be a store. Such a file is
+    /// but out of memory: the path can't be opened, another process has the file, or it is no database that may be a store. Such a file is
     /// left as it is, as is what lies beside it: both are looked at in copies first. `:memory:` names no file.
     pub fn open_file(
         rt: &HostRuntime,

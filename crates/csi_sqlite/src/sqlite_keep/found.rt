@@ -39,7 +39,7 @@ fn told_of_copies(error: &Error) -> KeepFault
 
 impl<D: Disk + Drop> SqliteKeep<FileStore<D>> {
     /// The store that these two files have, copies in memory of a database file and its log, where they are a database that lists the table
-    /// `parts` alone; no table is made. `Device` stands for all refusals but want of memory, and in memory a disk fails for nothing else.
+    /// `parts` alone; no table is made. `Device` stands for all refusals but out of memory, and in memory a disk fails for nothing else.
     pub fn find(alloc: Global, files: Files<D>) -> Result<SqliteKeep<FileStore<D>>, KeepFault>
         requires log { IsTrue (D.Disk.is_usable files.log) }
         requires db { IsTrue (D.Disk.is_usable files.db) }
