@@ -225,8 +225,11 @@ func (host *host) goOn(ctx context.Context, name string) {
 	time.AfterFunc(seconds(host.config.RetrySeconds), func() { host.tell(ctx, again) })
 }
 
-// call makes a call, and tells what came of it: the reply, or that none did.
+// call makes a call, and tells what came of it: the reply, or that none did, which isn't told before a timeout would be: else a driver that refuses at once
+// would be called again at once.
 func (host *host) call(ctx, calls context.Context, came event, send Sending) {
+	least := time.NewTimer(seconds(host.config.RetrySeconds))
+	defer least.Stop()
 	reply, err := host.carrier.carry(calls, send)
 	if err != nil {
 		came.err = fmt.Errorf("a call of %s: %w", came.name, err)
@@ -234,6 +237,11 @@ func (host *host) call(ctx, calls context.Context, came event, send Sending) {
 	came.line, came.isTimeout = timeoutOf(came.name), true
 	if reply != nil {
 		came.line, came.isTimeout = lineOf("reply", hex.EncodeToString(reply)), false
+	} else if err == nil {
+		select {
+		case <-least.C:
+		case <-calls.Done():
+		}
 	}
 	host.tell(ctx, came)
 }

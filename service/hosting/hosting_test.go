@@ -3,6 +3,7 @@ package hosting
 import (
 	"bytes"
 	"context"
+	"encoding/hex"
 	"errors"
 	"fmt"
 	"net"
@@ -11,6 +12,12 @@ import (
 	"sync/atomic"
 	"testing"
 	"time"
+
+	"google.golang.org/grpc"
+	"google.golang.org/grpc/codes"
+	"google.golang.org/grpc/status"
+
+	"tufayon/service/frames"
 )
 
 // asked is an orchestrator that wants nothing, and notes what it is asked together.
@@ -129,5 +136,46 @@ func TestReconnecting(t *testing.T) {
 	time.Sleep(500 * time.Millisecond)
 	if count := atomic.LoadInt32(&sought); count < 2 || count > 10 {
 		t.Errorf("it was sought %d times", count)
+	}
+}
+
+// creating is an orchestrator that wants a volume, and sends the call that makes it at each timeout.
+type creating struct {
+	send  Sending
+	asked int32
+}
+
+func (creating *creating) Answers(lines [][]byte) ([]Answer, error) {
+	answers := make([]Answer, len(lines))
+	for at := range lines {
+		atomic.AddInt32(&creating.asked, 1)
+		answers[at] = Answer{Line: []byte("sent\n"), Name: "v", Goal: []byte(`"create"`), Send: &creating.send}
+	}
+	return answers, nil
+}
+
+func (*creating) Close() error { return nil }
+
+// A driver that refuses each call at once, as one that isn't ready, is called again no sooner than a timeout would be told.
+func TestRefusedAtOnce(t *testing.T) {
+	path := filepath.Join(t.TempDir(), "csi.sock")
+	listener, err := net.Listen("unix", path)
+	if err != nil {
+		t.Fatal(err)
+	}
+	server := grpc.NewServer(grpc.UnknownServiceHandler(func(any, grpc.ServerStream) error { return status.Error(codes.Unavailable, "not ready") }))
+	go server.Serve(listener)
+	defer server.Stop()
+	frame, err := frames.Call{Number: frames.Number{Session: 1, Call: 1}, Body: frames.DeleteVolume{ID: 1}}.Encode()
+	if err != nil {
+		t.Fatal(err)
+	}
+	wants := &creating{send: Sending{Frame: hex.EncodeToString(frame), Plugin: "controller"}}
+	ctx, cancel := context.WithTimeout(context.Background(), time.Second)
+	defer cancel()
+	config := Config{Controller: "unix://" + path, DeadlineSeconds: 60, RetrySeconds: 0.2}
+	Serve(ctx, config, wants, Answer{Line: []byte("first\n"), Wanted: []string{"v"}}, strings.NewReader(""), &bytes.Buffer{})
+	if count := atomic.LoadInt32(&wants.asked); count < 2 || count > 7 {
+		t.Errorf("in a second it is asked %d times", count)
 	}
 }
