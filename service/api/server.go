@@ -6,6 +6,7 @@ import (
 	"sync"
 	"time"
 
+	"github.com/golang/protobuf/proto"
 	"go.uber.org/zap"
 	"google.golang.org/grpc"
 	"google.golang.org/grpc/codes"
@@ -26,8 +27,10 @@ import (
 	"tufayon/service/tracing"
 )
 
-// mostListed is how many volumes a page of a list has at most.
-const mostListed = 1000
+const (
+	mostListed = 1000    // volumes that a page of a list has at most
+	mostBytes  = 2 << 20 // of a page with several volumes: half of what clients of gRPC take
+)
 
 // Plugins says how it stands with the plugins: carrying.Carrier is one.
 type Plugins interface {
@@ -252,14 +255,24 @@ func (server *Server) List(ctx context.Context, request *wire.ListRequest) (*wir
 		_, isThere := volume.Where(request.Node)
 		return request.Node == "" || isThere || volume.Goal != records.None && volume.Row.Node == request.Node
 	})
-	response := &wire.ListResponse{}
-	for _, volume := range volumes {
-		response.Volumes = append(response.Volumes, server.volumeOf(volume))
+	return server.page(volumes, more), current(ctx, leads)
+}
+
+// page is what fits into a message of the first of these volumes, at least one, and the name behind which the next page begins, if there is one.
+func (server *Server) page(volumes []host.Volume, more bool) *wire.ListResponse {
+	response, size := &wire.ListResponse{}, 0
+	for _, it := range volumes {
+		volume := server.volumeOf(it)
+		if size += proto.Size(volume); size > mostBytes && len(response.Volumes) > 0 {
+			more = true
+			break
+		}
+		response.Volumes = append(response.Volumes, volume)
 	}
 	if more {
-		response.Next = volumes[len(volumes)-1].Name
+		response.Next = response.Volumes[len(response.Volumes)-1].Name
 	}
-	return response, current(ctx, leads)
+	return response
 }
 
 // Watch gives what happens, until the caller goes.
