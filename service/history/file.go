@@ -7,6 +7,7 @@ import (
 	"errors"
 	"fmt"
 	"os"
+	"syscall"
 
 	"go.uber.org/zap"
 
@@ -49,7 +50,10 @@ func (made *History) open(path string) error {
 	}
 	made.file = &file{path: path, isStale: true}
 	made.save()
-	return made.file.err
+	if err := made.file.err; !errors.Is(err, syscall.ENOSPC) && !errors.Is(err, syscall.EDQUOT) {
+		return err
+	}
+	return nil // it goes on in memory, as where the disk gets full later
 }
 
 // read reads the lines of a file. The last one, which a process that was killed didn't finish, is left out, and so is all from the first on that is none.
@@ -130,6 +134,7 @@ func (made *History) rewrite() error {
 	}
 	if err != nil {
 		anew.Close()
+		os.Remove(it.path + ".new")
 		return err
 	}
 	if it.to != nil {
