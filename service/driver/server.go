@@ -32,7 +32,7 @@ var numbered = map[string]bool{
 // whether the proto has its fields. Interceptors among other options come before all that. A panic ends the call alone, and is told on standard error, after the program's name.
 func NewServer(backend *Backend, limits *limiting.Limits, program string, more ...grpc.ServerOption) *grpc.Server {
 	options := append(append(limits.Options(), more...), grpc.MaxRecvMsgSize(maxMessage), grpc.MaxHeaderListSize(maxMetadata),
-		grpc.ChainUnaryInterceptor(limits.Intercept, recovering(os.Stderr, program), backend.admit))
+		grpc.ChainUnaryInterceptor(limits.Intercept, recovering(os.Stderr, program), backend.admit), grpc.ChainStreamInterceptor(limits.InterceptStream))
 	server := grpc.NewServer(options...)
 	grpc_health_v1.RegisterHealthServer(server, backend.health)
 	return server

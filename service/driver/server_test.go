@@ -4,6 +4,7 @@ import (
 	"bytes"
 	"context"
 	"errors"
+	"path/filepath"
 	"strings"
 	"testing"
 
@@ -15,6 +16,7 @@ import (
 
 	"tufayon/service/frames"
 	"tufayon/service/hooks"
+	"tufayon/service/limiting"
 	"tufayon/service/numbers"
 	"tufayon/service/wire"
 )
@@ -52,6 +54,37 @@ func TestReady(t *testing.T) {
 	info, err := wire.NewIdentityClient(box.client).GetPluginInfo(context.Background(), &wire.GetPluginInfoRequest{})
 	if err != nil || info.GetName() != "a.example" || info.GetVendorVersion() != "1.2.3" {
 		t.Errorf("GetPluginInfo: %v, %v", info, err)
+	}
+}
+
+// Of a connection above the limit neither calls are served nor streams.
+func TestAbove(t *testing.T) {
+	limits := &limiting.Limits{Connections: 1, Streams: 8}
+	server := NewServer(NewBackend(), limits, "a test")
+	socket := filepath.Join(t.TempDir(), "d", "s")
+	listener, err := Listen(socket)
+	if err != nil {
+		t.Fatal(err)
+	}
+	go server.Serve(limits.Listen(listener))
+	t.Cleanup(server.Stop)
+	for _, want := range []codes.Code{codes.OK, codes.ResourceExhausted} {
+		connection, err := grpc.Dial("unix://"+socket, grpc.WithInsecure())
+		if err != nil {
+			t.Fatal(err)
+		}
+		t.Cleanup(func() { connection.Close() })
+		client := grpc_health_v1.NewHealthClient(connection)
+		if _, err := client.Check(context.Background(), &grpc_health_v1.HealthCheckRequest{}); status.Code(err) != want {
+			t.Errorf("a call: %v, not %v", err, want)
+		}
+		stream, err := client.Watch(context.Background(), &grpc_health_v1.HealthCheckRequest{})
+		if err == nil {
+			_, err = stream.Recv()
+		}
+		if status.Code(err) != want {
+			t.Errorf("a stream: %v, not %v", err, want)
+		}
 	}
 }
 

@@ -13,8 +13,8 @@ import (
 	"google.golang.org/grpc/status"
 )
 
-// Limits are how many connections are served, and how many streams of each: what is above is refused by RESOURCE_EXHAUSTED, or closed where it is
-// twice as much.
+// Limits are how many connections are served, and how many streams of each: what is above is refused by RESOURCE_EXHAUSTED, as long as it is, or closed
+// where it is twice as much.
 type Limits struct {
 	Connections int
 	Streams     uint32
@@ -31,21 +31,24 @@ func (limits *Limits) Options() []grpc.ServerOption {
 	return []grpc.ServerOption{grpc.MaxConcurrentStreams(limits.Streams)}
 }
 
-// above is the address of who is at the other end of a connection above the limit: what gRPC tells of a connection with each call, without a handler of
-// statistics, for which it would copy each call's metadata.
-type above struct{ net.Addr }
+// above is the address of who is at the other end of a connection that was above the limit when it came: what gRPC tells of a connection with each call,
+// without a handler of statistics, for which it would copy each call's metadata.
+type above struct {
+	net.Addr
+	connection *connection
+}
 
 // judge refuses a call of a connection above the limit.
 func judge(ctx context.Context) error {
 	if from, known := peer.FromContext(ctx); known {
-		if _, is := from.Addr.(above); is {
+		if its, is := from.Addr.(above); is && !its.connection.mayCall() {
 			return errConnections
 		}
 	}
 	return nil
 }
 
-// Intercept refuses the calls of a connection above the limit.
+// Intercept refuses the calls of a connection above the limit, until another one has ended.
 func (limits *Limits) Intercept(ctx context.Context, request any, _ *grpc.UnaryServerInfo, handle grpc.UnaryHandler) (any, error) {
 	if err := judge(ctx); err != nil {
 		return nil, err
@@ -68,9 +71,10 @@ func (limits *Limits) Listen(inner net.Listener) net.Listener {
 
 type listener struct {
 	net.Listener
-	limit int
-	mutex sync.Mutex
-	open  int
+	limit  int
+	mutex  sync.Mutex
+	open   int
+	served int // of those: the limit at most
 }
 
 func (listener *listener) Accept() (net.Conn, error) {
@@ -79,31 +83,55 @@ func (listener *listener) Accept() (net.Conn, error) {
 		if err != nil {
 			return nil, err
 		}
-		listener.mutex.Lock()
-		isServed := listener.open < 2*listener.limit
-		if isServed {
-			listener.open++
-		}
-		isAbove := listener.open > listener.limit
-		listener.mutex.Unlock()
-		if isServed {
-			return &connection{Conn: accepted, of: listener, isAbove: isAbove}, nil
+		if counted := listener.count(accepted); counted != nil {
+			return counted, nil
 		}
 		accepted.Close()
 	}
 }
 
+// count takes in a connection that came: none beyond twice the limit.
+func (listener *listener) count(accepted net.Conn) net.Conn {
+	listener.mutex.Lock()
+	defer listener.mutex.Unlock()
+	if listener.open >= 2*listener.limit {
+		return nil
+	}
+	listener.open++
+	counted := &connection{Conn: accepted, of: listener, isAbove: listener.served >= listener.limit}
+	if !counted.isAbove {
+		counted.isServed = true
+		listener.served++
+	}
+	return counted
+}
+
 type connection struct {
 	net.Conn
 	of      *listener
-	isAbove bool
-	once    sync.Once
+	isAbove bool // it was when it came
+
+	// These are the listener's to change.
+	isServed bool
+	hasEnded bool
+}
+
+// mayCall says whether its calls are served: from the first one on that comes while fewer are served than may be.
+func (connection *connection) mayCall() bool {
+	its := connection.of
+	its.mutex.Lock()
+	defer its.mutex.Unlock()
+	if !connection.isServed && !connection.hasEnded && its.served < its.limit {
+		connection.isServed = true
+		its.served++
+	}
+	return connection.isServed
 }
 
 // RemoteAddr is who is at the other end, above the limit as such.
 func (connection *connection) RemoteAddr() net.Addr {
 	if connection.isAbove {
-		return above{connection.Conn.RemoteAddr()}
+		return above{connection.Conn.RemoteAddr(), connection}
 	}
 	return connection.Conn.RemoteAddr()
 }
@@ -118,10 +146,21 @@ func (connection *connection) SyscallConn() (syscall.RawConn, error) {
 }
 
 func (connection *connection) Close() error {
-	connection.once.Do(func() {
-		connection.of.mutex.Lock()
-		connection.of.open--
-		connection.of.mutex.Unlock()
-	})
+	connection.end()
 	return connection.Conn.Close()
+}
+
+// end takes it off what it was counted in.
+func (connection *connection) end() {
+	its := connection.of
+	its.mutex.Lock()
+	defer its.mutex.Unlock()
+	if connection.hasEnded {
+		return
+	}
+	connection.hasEnded = true
+	its.open--
+	if connection.isServed {
+		its.served--
+	}
 }

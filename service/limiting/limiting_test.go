@@ -4,6 +4,7 @@ import (
 	"context"
 	"net"
 	"path/filepath"
+	"sync/atomic"
 	"testing"
 	"time"
 
@@ -14,7 +15,9 @@ import (
 	"google.golang.org/grpc/status"
 )
 
-// Calls of a connection above the limit are refused, until another one ends.
+const within = 10 * time.Second // what should come soon
+
+// Calls of a connection above the limit are refused, until another one ends: then it is served, without being dialed again.
 func TestConnections(t *testing.T) {
 	limits := &Limits{Connections: 2, Streams: 8}
 	path := filepath.Join(t.TempDir(), "s")
@@ -26,40 +29,57 @@ func TestConnections(t *testing.T) {
 	grpc_health_v1.RegisterHealthServer(server, health.NewServer())
 	go server.Serve(limits.Listen(inner))
 	defer server.Stop()
-	connect := func() (*grpc.ClientConn, codes.Code) {
-		connection, err := grpc.Dial("unix://"+path, grpc.WithInsecure())
+	var dialed int32
+	dial := func(context.Context, string) (net.Conn, error) {
+		atomic.AddInt32(&dialed, 1)
+		return net.Dial("unix", path)
+	}
+	call := func(connection *grpc.ClientConn) codes.Code {
+		_, err := grpc_health_v1.NewHealthClient(connection).Check(context.Background(), &grpc_health_v1.HealthCheckRequest{})
+		return status.Code(err)
+	}
+	wants := func(which string, connection *grpc.ClientConn, want codes.Code) {
+		t.Helper()
+		if code := call(connection); code != want {
+			t.Errorf("a call of the %s: %v, not %v", which, code, want)
+		}
+		stream, err := grpc_health_v1.NewHealthClient(connection).Watch(context.Background(), &grpc_health_v1.HealthCheckRequest{})
+		if err == nil {
+			_, err = stream.Recv()
+		}
+		if status.Code(err) != want {
+			t.Errorf("a stream of the %s: %v, not %v", which, err, want)
+		}
+	}
+	connect := func(which string, want codes.Code) *grpc.ClientConn {
+		t.Helper()
+		connection, err := grpc.Dial("s", grpc.WithInsecure(), grpc.WithContextDialer(dial))
 		if err != nil {
 			t.Fatal(err)
 		}
 		t.Cleanup(func() { connection.Close() })
-		client := grpc_health_v1.NewHealthClient(connection)
-		_, err = client.Check(context.Background(), &grpc_health_v1.HealthCheckRequest{})
-		stream, failed := client.Watch(context.Background(), &grpc_health_v1.HealthCheckRequest{})
-		if failed == nil {
-			_, failed = stream.Recv()
-		}
-		if status.Code(failed) != status.Code(err) {
-			t.Errorf("a call: %v, and a stream: %v", err, failed)
-		}
-		return connection, status.Code(err)
+		wants(which, connection, want)
+		return connection
 	}
-	first, _ := connect()
-	for _, want := range []codes.Code{codes.OK, codes.ResourceExhausted, codes.ResourceExhausted} {
-		if it, code := connect(); code != want {
-			t.Errorf("a call: %v, not %v", code, want)
-		} else if code != codes.OK {
-			it.Close()
+	served := func(which string, connection *grpc.ClientConn) {
+		t.Helper()
+		for end := time.Now().Add(within); call(connection) != codes.OK && time.Now().Before(end); {
+			time.Sleep(time.Millisecond)
 		}
+		wants(which, connection, codes.OK)
 	}
+	first := connect("first", codes.OK)
+	second := connect("second", codes.OK)
+	third := connect("third", codes.ResourceExhausted)
+	fourth := connect("fourth", codes.ResourceExhausted)
 	first.Close()
-	for end := time.Now().Add(time.Minute); ; {
-		it, code := connect()
-		if code == codes.OK {
-			return
-		}
-		if it.Close(); time.Now().After(end) {
-			t.Fatalf("a call of the next one: %v", code)
-		}
+	served("third", third)
+	wants("fourth", fourth, codes.ResourceExhausted)
+	third.Close()
+	served("fourth", fourth)
+	wants("second", second, codes.OK)
+	if count := atomic.LoadInt32(&dialed); count != 4 {
+		t.Errorf("four were dialed %d times", count)
 	}
 }
 
