@@ -70,7 +70,8 @@ type Life struct {
 	servers []*grpc.Server
 	served  chan error // what ended a server, where nothing here did
 	remakes chan remade
-	anew    *driver.Anew // what is to be staged and published anew
+	ended   chan struct{} // closed once Run returns
+	anew    *driver.Anew  // what is to be staged and published anew
 
 	// What there is by now.
 	listens bool
@@ -92,13 +93,16 @@ func New(it Driver) *Life {
 	if it.Start == nil {
 		it.Start = machineStart
 	}
-	life := &Life{driver: it, backend: driver.NewBackend(), served: make(chan error, len(it.Doors)), remakes: make(chan remade)}
+	life := &Life{
+		driver: it, backend: driver.NewBackend(), served: make(chan error, len(it.Doors)), remakes: make(chan remade), ended: make(chan struct{}),
+	}
 	life.anew = driver.NewAnew(string(it.Maker.Name), it.Hooks, life.backend)
 	return life
 }
 
-// Run runs the driver until the context ends, or it can't go on.
+// Run runs the driver until the context ends, or it can't go on. It is called once.
 func (life *Life) Run(ctx context.Context) error {
+	defer close(life.ended)
 	if err := life.driver.Maker.Check(); err != nil {
 		return err // before there is a store
 	}

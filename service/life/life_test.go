@@ -115,3 +115,38 @@ func TestRemake(t *testing.T) {
 		t.Error("another node's record")
 	}
 }
+
+// A plugin that is to be made anew while the driver waits to lead isn't waited for any more once the driver has ended by itself.
+func TestRemakeEnded(t *testing.T) {
+	its, opening, opens := errors.New("it can't be opened"), make(chan struct{}), make(chan struct{})
+	life := New(Driver{
+		Program: "a test", Name: "a.example", Maker: plugin.Maker{Name: []byte("n1")}, Numbering: ByMetadata(1000),
+		Open: func(context.Context) (store.Store, error) {
+			close(opening)
+			<-opens
+			return nil, its
+		},
+		Say: func(string) {},
+	})
+	ran, remade := make(chan error, 1), make(chan error, 1)
+	go func() { ran <- life.Run(context.Background()) }()
+	<-opening
+	go func() { remade <- life.Remake(context.Background(), plugin.Maker{Name: []byte("n1")}, nil) }()
+	select {
+	case err := <-remade:
+		t.Errorf("made anew before there is a record: %v", err)
+	case <-time.After(20 * time.Millisecond):
+	}
+	close(opens)
+	if err := <-ran; !errors.Is(err, its) {
+		t.Errorf("it ended by %v", err)
+	}
+	select {
+	case err := <-remade:
+		if !errors.Is(err, ErrEnded) {
+			t.Errorf("made anew: %v", err)
+		}
+	case <-time.After(within):
+		t.Error("it waits for a driver that has ended")
+	}
+}

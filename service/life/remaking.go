@@ -2,26 +2,32 @@ package life
 
 import (
 	"context"
+	"errors"
 	"fmt"
 
 	"tufayon/service/plugin"
 	"tufayon/service/serving"
 )
 
+// ErrEnded says that no plugin is made anew, since the driver has ended.
+var ErrEnded = errors.New("the driver has ended")
+
 // A Judge says why a plugin isn't to be made anew where its record is as it is.
 type Judge func(serving.View) error
 
 // Remake has the plugin made anew of its record, a controller's by another configuration, while the store and the sockets stay, unless that is judged to be
 // wrong. Calls that come meanwhile are refused by 14 `not ready`, as at a start. Where the plugin can't be made so, the one of before goes on, and it says
-// why.
+// why. While the driver waits to lead, this waits too: until then there is no record that could be judged.
 func (life *Life) Remake(ctx context.Context, maker plugin.Maker, judge Judge) error {
 	answered := make(chan error, 1)
 	select {
 	case life.remakes <- remade{maker, judge, answered}:
+	case <-life.ended:
+		return ErrEnded
 	case <-ctx.Done():
 		return ctx.Err()
 	}
-	return <-answered
+	return <-answered // which comes, whatever ends the driver
 }
 
 // remake judges it twice: while calls are answered, which all go on where it is wrong, and once none are.
