@@ -23,6 +23,7 @@ import (
 	"tufayon/service/carrying"
 	"tufayon/service/history"
 	"tufayon/service/host"
+	"tufayon/service/limiting"
 	"tufayon/service/records"
 	"tufayon/service/tracing"
 )
@@ -56,7 +57,7 @@ func New(
 ) (*Server, *grpc.Server) {
 	guard := &guard{roles: roles, log: log}
 	made := grpc.NewServer(append(more,
-		grpc.Creds(known), grpc.ChainUnaryInterceptor(guard.unary), grpc.ChainStreamInterceptor(guard.stream),
+		grpc.Creds(known), grpc.ConnectionTimeout(limiting.Greeting), grpc.ChainUnaryInterceptor(guard.unary), grpc.ChainStreamInterceptor(guard.stream),
 		grpc.KeepaliveEnforcementPolicy(keepalive.EnforcementPolicy{MinTime: 5 * time.Second, PermitWithoutStream: true}),
 		grpc.KeepaliveParams(keepalive.ServerParameters{Time: 30 * time.Second, Timeout: 10 * time.Second}),
 	)...)

@@ -306,7 +306,7 @@ func (life *Life) finish() {
 	case <-finished:
 	case <-time.After(time.Second):
 		for _, server := range life.servers {
-			server.Stop()
+			limiting.Stop(server)
 		}
 	}
 }

@@ -150,3 +150,22 @@ func TestRemakeEnded(t *testing.T) {
 		t.Error("it waits for a driver that has ended")
 	}
 }
+
+// Who connects and says nothing doesn't hold up the end of a driver.
+func TestSilent(t *testing.T) {
+	folder := t.TempDir()
+	_, client, end := lived(t, folder, "n1")
+	if err := stage(client, "1.1"); err != nil {
+		t.Fatal(err)
+	}
+	silent, err := net.Dial("unix", filepath.Join(folder, "d", "s"))
+	if err != nil {
+		t.Fatal(err)
+	}
+	defer silent.Close()
+	time.Sleep(100 * time.Millisecond) // until it is let in
+	begun := time.Now()
+	if err := end(); err != nil || time.Since(begun) > within {
+		t.Errorf("it ended by %v, after %v", err, time.Since(begun))
+	}
+}

@@ -1,4 +1,4 @@
-// Package limiting bounds what a server of gRPC takes: connections, and streams of each.
+// Package limiting bounds what a server of gRPC takes: connections, streams of each, and time at its end.
 package limiting
 
 import (
@@ -6,12 +6,19 @@ import (
 	"net"
 	"sync"
 	"syscall"
+	"time"
 
 	"google.golang.org/grpc"
 	"google.golang.org/grpc/codes"
 	"google.golang.org/grpc/peer"
 	"google.golang.org/grpc/status"
 )
+
+// Greeting is how long who connects may take to say who it is, and what it speaks: gRPC gives two minutes, for which the end of a server waits too.
+const Greeting = 10 * time.Second
+
+// mostStop is how long the end of a server is waited for.
+const mostStop = time.Second
 
 // Limits are how many connections are served, and how many streams of each: what is above is refused by RESOURCE_EXHAUSTED, as long as it is, or closed
 // where it is twice as much.
@@ -28,7 +35,20 @@ var errConnections = status.Error(codes.ResourceExhausted, "connections")
 
 // Options are the server's.
 func (limits *Limits) Options() []grpc.ServerOption {
-	return []grpc.ServerOption{grpc.MaxConcurrentStreams(limits.Streams)}
+	return []grpc.ServerOption{grpc.MaxConcurrentStreams(limits.Streams), grpc.ConnectionTimeout(Greeting)}
+}
+
+// Stop ends a server at once, with the calls that are under way. Who has connected and says nothing holds it up for a second at most, and is closed later.
+func Stop(server *grpc.Server) {
+	stopped := make(chan struct{})
+	go func() {
+		server.Stop()
+		close(stopped)
+	}()
+	select {
+	case <-stopped:
+	case <-time.After(mostStop):
+	}
 }
 
 // above is the address of who is at the other end of a connection that was above the limit when it came: what gRPC tells of a connection with each call,

@@ -2,6 +2,7 @@ package limiting
 
 import (
 	"context"
+	"io"
 	"net"
 	"path/filepath"
 	"sync/atomic"
@@ -122,4 +123,70 @@ func TestListener(t *testing.T) {
 	defer next.Close()
 	<-accepted
 	(<-accepted).Close()
+}
+
+// Who connects and says nothing doesn't hold up the end of a server.
+func TestStop(t *testing.T) {
+	limits := &Limits{Connections: 2, Streams: 8}
+	path := filepath.Join(t.TempDir(), "s")
+	inner, err := net.Listen("unix", path)
+	if err != nil {
+		t.Fatal(err)
+	}
+	server := grpc.NewServer(limits.Options()...)
+	grpc_health_v1.RegisterHealthServer(server, health.NewServer())
+	served := make(chan error, 1)
+	go func() { served <- server.Serve(limits.Listen(inner)) }()
+	silent, err := net.Dial("unix", path)
+	if err != nil {
+		t.Fatal(err)
+	}
+	defer silent.Close()
+	connection, err := grpc.Dial("unix://"+path, grpc.WithInsecure())
+	if err != nil {
+		t.Fatal(err)
+	}
+	defer connection.Close()
+	client := grpc_health_v1.NewHealthClient(connection)
+	if _, err := client.Check(context.Background(), &grpc_health_v1.HealthCheckRequest{}); err != nil { // so the silent one was let in before
+		t.Fatal(err)
+	}
+	begun := time.Now()
+	Stop(server)
+	if took := time.Since(begun); took > within/2 {
+		t.Errorf("it took %v", took)
+	}
+	if _, err := client.Check(context.Background(), &grpc_health_v1.HealthCheckRequest{}); status.Code(err) != codes.Unavailable {
+		t.Errorf("a call behind: %v", err)
+	}
+	silent.Close()
+	if err := <-served; err != nil {
+		t.Errorf("it ended by %v", err)
+	}
+}
+
+// Who connects and says nothing is closed after a while.
+func TestGreeting(t *testing.T) {
+	if testing.Short() {
+		t.Skip("left out, since it takes 10 s")
+	}
+	limits := New()
+	inner, err := net.Listen("unix", filepath.Join(t.TempDir(), "s"))
+	if err != nil {
+		t.Fatal(err)
+	}
+	server := grpc.NewServer(limits.Options()...)
+	go server.Serve(limits.Listen(inner))
+	defer Stop(server)
+	silent, err := net.Dial("unix", inner.Addr().String())
+	if err != nil {
+		t.Fatal(err)
+	}
+	defer silent.Close()
+	if err := silent.SetDeadline(time.Now().Add(Greeting + within)); err != nil {
+		t.Fatal(err)
+	}
+	if _, err := io.Copy(io.Discard, silent); err != nil {
+		t.Errorf("it isn't closed: %v", err)
+	}
 }

@@ -222,7 +222,7 @@ func (running *serving) doors() []life.Door {
 		Address: read.Listen,
 		Listen:  func() (net.Listener, error) { return Listen(read.Listen) },
 		Options: append(watchedOptions(running.told, running.log),
-			grpc.Creds(running.known(read.Listen)), grpc.ConnectionTimeout(10*time.Second),
+			grpc.Creds(running.known(read.Listen)),
 			grpc.KeepaliveEnforcementPolicy(keepalive.EnforcementPolicy{MinTime: 5 * time.Second, PermitWithoutStream: true}),
 			grpc.KeepaliveParams(keepalive.ServerParameters{Time: 30 * time.Second, Timeout: 10 * time.Second}),
 		),

@@ -18,6 +18,7 @@ import (
 	"tufayon/service/carrying"
 	"tufayon/service/daemon"
 	"tufayon/service/host"
+	"tufayon/service/limiting"
 	"tufayon/service/program"
 	"tufayon/service/secure"
 	"tufayon/service/settings"
@@ -128,7 +129,7 @@ func (running *service) listen() (served <-chan error, end func(), err error) {
 	running.server.Keep(running.watching.history)
 	ended := make(chan error, 1)
 	go func() { ended <- running.grpc.Serve(listener) }()
-	return ended, func() { running.grpc.Stop(); listener.Close(); closeFinder() }, nil
+	return ended, func() { limiting.Stop(running.grpc); listener.Close(); closeFinder() }, nil
 }
 
 // connect makes connections to the plugins.
@@ -196,7 +197,7 @@ func (running *service) wait(ctx context.Context, served <-chan error) error {
 		case err := <-served:
 			return err
 		case <-running.host.Done():
-			running.grpc.Stop() // each caller gets that it isn't known what became of its command
+			limiting.Stop(running.grpc) // each caller gets that it isn't known what became of its command
 			return running.host.Err()
 		case <-ctx.Done():
 			running.server.Leave()
