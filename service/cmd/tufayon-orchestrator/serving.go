@@ -242,7 +242,19 @@ func (running *service) readAnew(ctx context.Context) error {
 	if err := running.stays(read); err != nil {
 		return err
 	}
-	running.watching.configure(read)
+	running.watching.configure(read) // a session that begins has the new list
+	if err := running.follow(ctx, read); err != nil {
+		running.watching.configure(running.settings)
+		return err
+	}
+	running.roles.Set(read.Roles(os.Geteuid()))
+	running.settings = read
+	running.log.Info("the files were read anew", zap.Strings("nodes", read.Set.IDs()))
+	return nil
+}
+
+// follow has the connections to the plugins be to other addresses, and the orchestrator that leads begin a session with other nodes.
+func (running *service) follow(ctx context.Context, read *settings.Settings) error {
 	both := running.settings.Set.Addresses()
 	for plugin, address := range read.Set.Addresses() {
 		both[plugin] = address
@@ -256,13 +268,7 @@ func (running *service) readAnew(ctx context.Context) error {
 			return settings.Faults{fmt.Sprintf("%s: nodes: %v", read.Process.Place.Set, err)}
 		}
 	}
-	if err := running.carrier.Set(read.Set.Addresses()); err != nil {
-		return err
-	}
-	running.roles.Set(read.Roles(os.Geteuid()))
-	running.settings = read
-	running.log.Info("the files were read anew", zap.Strings("nodes", read.Set.IDs()))
-	return nil
+	return running.carrier.Set(read.Set.Addresses())
 }
 
 // stays says what isn't changed without a restart of the process.

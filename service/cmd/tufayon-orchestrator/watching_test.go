@@ -9,6 +9,7 @@ import (
 	"net/http"
 	"os"
 	"strings"
+	"syscall"
 	"testing"
 	"time"
 
@@ -76,6 +77,15 @@ func TestWatched(t *testing.T) {
 			t.Errorf("metrics: %d, it has no %s: %s", status, it, text)
 		}
 	}
+	made.list("n2") // n1 is in use, so all stays as it is, and is told so
+	if err := syscall.Kill(os.Getpid(), syscall.SIGHUP); err != nil {
+		t.Fatal(err)
+	}
+	time.Sleep(200 * time.Millisecond) // until the files were read
+	if _, text := got(t, address, "/metrics"); !strings.Contains(text, `tufayon_node_slots{node="n1"} 8`) {
+		t.Errorf("behind a list that was refused: %s", text)
+	}
+	made.list("n1")
 	if status, text := got(t, address, "/"); status != 200 || !strings.Contains(text, "<title>Tufayon</title>") {
 		t.Errorf("the page: %d %s", status, text)
 	}
