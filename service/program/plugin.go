@@ -15,7 +15,6 @@ import (
 
 	"go.uber.org/zap"
 	"google.golang.org/grpc"
-	"google.golang.org/grpc/credentials"
 	"google.golang.org/grpc/keepalive"
 
 	"tufayon/service/carrying"
@@ -221,8 +220,7 @@ func (running *serving) doors() []life.Door {
 	called := life.Door{
 		Address: read.Listen,
 		Listen:  func() (net.Listener, error) { return Listen(read.Listen) },
-		Options: append(watchedOptions(running.told, running.log),
-			grpc.Creds(running.known(read.Listen)),
+		Options: append(append(watchedOptions(running.told, running.log), running.known(read.Listen)...),
 			grpc.KeepaliveEnforcementPolicy(keepalive.EnforcementPolicy{MinTime: 5 * time.Second, PermitWithoutStream: true}),
 			grpc.KeepaliveParams(keepalive.ServerParameters{Time: 30 * time.Second, Timeout: 10 * time.Second}),
 		),
@@ -241,13 +239,13 @@ func (running *serving) refused(from net.Addr, why error) {
 	running.log.Warn("a caller is refused", zap.Stringer("from", from), zap.Error(why))
 }
 
-// known are the credentials by which callers are known.
-func (running *serving) known(address string) credentials.TransportCredentials {
+// known are the options of a server by which callers are known: at a Unix socket at each call, since another list of users counts at once.
+func (running *serving) known(address string) []grpc.ServerOption {
 	if carrying.IsLocal(address) {
-		return secure.Local{May: running.may, Refused: running.refused}
+		return secure.Local{May: running.may, Refused: running.refused}.Options()
 	}
 	orchestrator := secure.Name{Set: running.read.Set.Name, Role: secure.Orchestrator}
-	return running.read.Plugin.Files().Server(secure.Only(orchestrator), running.refused)
+	return []grpc.ServerOption{grpc.Creds(running.read.Plugin.Files().Server(secure.Only(orchestrator), running.refused))}
 }
 
 // may says whether a user may call.

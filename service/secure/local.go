@@ -8,7 +8,10 @@ import (
 	"syscall"
 
 	"golang.org/x/sys/unix"
+	"google.golang.org/grpc"
+	"google.golang.org/grpc/codes"
 	"google.golang.org/grpc/credentials"
+	"google.golang.org/grpc/status"
 )
 
 // Local are the credentials of a Unix socket, of a client and of a server. The kernel says which user is at the other end.
@@ -26,11 +29,50 @@ type User struct {
 // AuthType is the name of this way to know a peer.
 func (User) AuthType() string { return "peercred" }
 
+// judge refuses a user that isn't wanted there.
+func (local Local) judge(uid uint32) error {
+	if !local.May(uid) {
+		return fmt.Errorf("%w: %d", ErrUser, uid)
+	}
+	return nil
+}
+
+// Options are a server's that refuses each user that isn't wanted there: when it connects, and later at each call, since it may be wanted no more.
+func (local Local) Options() []grpc.ServerOption {
+	return []grpc.ServerOption{
+		grpc.Creds(local),
+		grpc.ChainUnaryInterceptor(func(ctx context.Context, request any, _ *grpc.UnaryServerInfo, handle grpc.UnaryHandler) (any, error) {
+			if err := local.admit(ctx); err != nil {
+				return nil, err
+			}
+			return handle(ctx, request)
+		}),
+		grpc.ChainStreamInterceptor(func(server any, stream grpc.ServerStream, _ *grpc.StreamServerInfo, handle grpc.StreamHandler) error {
+			if err := local.admit(stream.Context()); err != nil {
+				return err
+			}
+			return handle(server, stream)
+		}),
+	}
+}
+
+// admit refuses a call of a user that isn't wanted there any more.
+func (local Local) admit(ctx context.Context) error {
+	from, err := From(ctx)
+	if err != nil {
+		return status.Error(codes.Unauthenticated, err.Error())
+	}
+	if err := local.judge(from.UID); err != nil {
+		return status.Error(codes.PermissionDenied, err.Error())
+	}
+	return nil
+}
+
 // ServerHandshake says who connected.
 func (local Local) ServerHandshake(raw net.Conn) (net.Conn, credentials.AuthInfo, error) {
 	user, err := userOf(raw)
-	if err == nil && !local.May(user.UID) {
-		err = fmt.Errorf("%w: %d", ErrUser, user.UID)
+	if err == nil {
+		err = local.judge(user.UID)
 	}
 	if err != nil {
 		if local.Refused != nil {

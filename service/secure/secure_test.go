@@ -9,10 +9,16 @@ import (
 	"os"
 	"path/filepath"
 	"strings"
+	"sync/atomic"
 	"testing"
 	"time"
 
+	"google.golang.org/grpc"
+	"google.golang.org/grpc/codes"
 	"google.golang.org/grpc/credentials"
+	"google.golang.org/grpc/health"
+	"google.golang.org/grpc/health/grpc_health_v1"
+	"google.golang.org/grpc/status"
 
 	"tufayon/service/secure"
 	"tufayon/service/secure/securetest"
@@ -283,6 +289,49 @@ func TestLocal(t *testing.T) {
 		raw.Close()
 		listener.Close()
 	}
+}
+
+// A user that isn't wanted any more is refused at its next call, over the connection that it has, and let in again once it is wanted.
+func TestLocalCalls(t *testing.T) {
+	listener, err := secure.Listen(filepath.Join(t.TempDir(), "socket"))
+	if err != nil {
+		t.Fatal(err)
+	}
+	own := uint32(os.Geteuid())
+	var refuses int32
+	server := grpc.NewServer(secure.Local{May: func(uid uint32) bool { return uid == own && atomic.LoadInt32(&refuses) == 0 }}.Options()...)
+	grpc_health_v1.RegisterHealthServer(server, health.NewServer())
+	go server.Serve(listener)
+	defer server.Stop()
+	connection, err := grpc.Dial("unix://"+listener.Addr().String(), grpc.WithTransportCredentials(secure.Local{May: func(uint32) bool { return true }}))
+	if err != nil {
+		t.Fatal(err)
+	}
+	defer connection.Close()
+	client := grpc_health_v1.NewHealthClient(connection)
+	for _, wants := range []error{nil, status.Errorf(codes.PermissionDenied, "%v: %d", secure.ErrUser, own), nil} {
+		if wants != nil {
+			atomic.StoreInt32(&refuses, 1)
+		} else {
+			atomic.StoreInt32(&refuses, 0)
+		}
+		_, err := client.Check(context.Background(), &grpc_health_v1.HealthCheckRequest{})
+		if !same(err, wants) {
+			t.Errorf("a call: %v, not %v", err, wants)
+		}
+		stream, err := client.Watch(context.Background(), &grpc_health_v1.HealthCheckRequest{})
+		if err == nil {
+			_, err = stream.Recv()
+		}
+		if !same(err, wants) {
+			t.Errorf("a stream: %v, not %v", err, wants)
+		}
+	}
+}
+
+// same says whether two calls ended alike.
+func same(one, other error) bool {
+	return status.Code(one) == status.Code(other) && (one == nil || status.Convert(one).Message() == status.Convert(other).Message())
 }
 
 // A socket that is served isn't taken away, and one that was left is.
