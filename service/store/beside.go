@@ -57,13 +57,14 @@ const (
 	takeSide   = "DELETE FROM beside WHERE name = ?1 AND made < (SELECT max(made) FROM beside WHERE name = ?1)"
 	putSide    = "INSERT INTO beside (name, made, value) VALUES (?, ?, ?)"
 	counts     = 1 << 31 // user_version has as many values
-	markName   = ""      // of a side that a commit puts which takes some out alone: the last commit is the greatest that one has
+	markName   = ""      // of a side that a commit puts which takes some out alone, or none: the last commit is the greatest that one has
 )
 
 // beside are the sides of a record in SQLite, whose file may have no other table: a file of their own, with the table beside. A commit that puts sides has
 // a number, which the record's file has as its user_version, modulo 2^31. It is made in both files at once, or where a side is to be first, here before it
 // is there; and here each side keeps the value before. So where a process ended between the two, what was here at the record's last commit is known, or is
-// that of the commit before, of which nothing was told; and a copy of one file alone is found, unless it is older by one commit.
+// that of the commit before, of which nothing was told; and a copy of one file alone is found, unless it is older by one commit. The number of a commit that
+// was made there alone is put here at the next start: so a file that misses commits again and again, as on a full disk, isn't taken for a copy.
 type beside struct {
 	path   string
 	db     *sql.DB // nil while the file isn't there
@@ -100,18 +101,24 @@ func (beside *beside) open(ctx context.Context, record *sql.DB, makes bool) erro
 		db.Close()
 		return fmt.Errorf("%w: %s: %v", ErrNotOpened, beside.path, err)
 	}
+	beside.db = db
 	switch mark {
 	case beside.made % counts:
 	case (beside.made + counts - 1) % counts:
 		beside.made-- // the last commit was made here alone
-	case (beside.made + 1) % counts:
-		beside.made++ // it was made there alone
+	case (beside.made + 1) % counts: // it was made there alone
+		if err = beside.commit(ctx, nil); err == nil {
+			beside.made++
+		}
 	default:
-		db.Close()
-		return fmt.Errorf("%w: %s", ErrBeside, beside.path)
+		err = fmt.Errorf("%w: %s", ErrBeside, beside.path)
 	}
-	beside.db = db
-	return nil
+	if err != nil {
+		beside.writer.close()
+		db.Close()
+		beside.db = nil
+	}
+	return err
 }
 
 func (beside *beside) load(ctx context.Context) (map[string][]byte, error) {
@@ -140,7 +147,7 @@ func (beside *beside) load(ctx context.Context) (map[string][]byte, error) {
 	return sides, nil
 }
 
-// commit puts sides as those of the commit after the record's last one.
+// commit puts sides as those of the commit after the last one: of none its number alone.
 func (beside *beside) commit(ctx context.Context, sides []Side) error {
 	err := beside.writer.transact(ctx, beside.db, func(tx transaction) error {
 		if err := tx.run(takeLater, beside.made); err != nil {

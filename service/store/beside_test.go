@@ -2,6 +2,7 @@ package store
 
 import (
 	"context"
+	"database/sql"
 	"errors"
 	"fmt"
 	"os"
@@ -180,5 +181,66 @@ func TestOtherTimes(t *testing.T) {
 			has(t, kept, "map[a:4]")
 		}
 		kept.Close()
+	}
+}
+
+// A commit that the record's file alone has is noted beside it at the next start, so that another one may follow; where that can't be written nothing is
+// opened, and the next start tries it again.
+func TestMissedCommits(t *testing.T) {
+	path := filepath.Join(t.TempDir(), "s.db")
+	kept := sided(t, path)
+	miss := func() {
+		t.Helper()
+		store := kept.(*sqlite)
+		mark := fmt.Sprintf("PRAGMA user_version = %d", store.beside.made+1)
+		if err := store.commit(ctx, false, some, func(tx transaction) error { return tx.runOnce(mark) }); err != nil {
+			t.Fatal(err)
+		}
+		kept.Close()
+		kept = sided(t, path)
+	}
+	put(t, kept, "a", "1", "b", "1")
+	for at := 0; at < 3; at++ {
+		miss()
+		has(t, kept, "map[a:1 b:1]")
+	}
+	put(t, kept, "a", "2")
+	has(t, kept, "map[a:2 b:1]")
+	kept.Close()
+	kept = sided(t, path)
+	has(t, kept, "map[a:2 b:1]")
+	miss()
+	refuse(t, path+".beside", "made < 6")
+	for at := 0; at < 2; at++ {
+		if sides, err := kept.Sides(ctx); !errors.Is(err, ErrDevice) {
+			t.Errorf("nothing can be written: %s, %v", sides, err)
+		}
+		if err := kept.CommitWith(ctx, []Side{{Name: "a"}}, some); !errors.Is(err, ErrDevice) {
+			t.Errorf("a commit, where nothing can be written: %v", err)
+		}
+		kept.Close()
+		kept = sided(t, path)
+	}
+	refuse(t, path+".beside", "TRUE")
+	has(t, kept, "map[a:2 b:1]")
+	kept.Close()
+}
+
+// refuse has a file of sides take only rows of which this holds.
+func refuse(t *testing.T, path, unless string) {
+	t.Helper()
+	db, err := sql.Open("sqlite3", path)
+	if err != nil {
+		t.Fatal(err)
+	}
+	defer db.Close()
+	db.SetMaxOpenConns(1)
+	for _, it := range []string{
+		"CREATE TABLE other (name TEXT NOT NULL, made INTEGER NOT NULL CHECK (" + unless + "), value BLOB NOT NULL, PRIMARY KEY (name, made))",
+		"INSERT INTO other SELECT * FROM beside", "DROP TABLE beside", "ALTER TABLE other RENAME TO beside",
+	} {
+		if _, err := db.Exec(it); err != nil {
+			t.Fatal(err)
+		}
 	}
 }
