@@ -8,6 +8,8 @@ import (
 	"fmt"
 	"net/url"
 	"path/filepath"
+
+	"github.com/mattn/go-sqlite3"
 )
 
 const (
@@ -18,6 +20,9 @@ const (
 	listNotNote = "SELECT count(*) FROM sqlite_master WHERE NOT " +
 		"(type = 'table' AND name = 'staged' OR type = 'index' AND tbl_name = 'staged' AND sql IS NULL)"
 )
+
+// errNote says that a row is no note.
+var errNote = errors.New("a volume that is none")
 
 // A Note says where a volume is staged, or is taken out.
 type Note struct {
@@ -32,32 +37,51 @@ type Notes struct {
 	writer writer
 }
 
-// OpenNotes opens the file, and makes it where it is missing. It holds the file's lock until it is closed.
+// OpenNotes opens the file, and makes it where it is missing. It holds the file's lock until it is closed. It fails with ErrNotes where the file has something
+// else, and with ErrNotOpened where it can't be opened now.
 func OpenNotes(ctx context.Context, path string) (*Notes, error) {
 	absolute, err := filepath.Abs(path)
 	if err != nil {
-		return nil, fmt.Errorf("%w: %v", ErrNotes, err)
+		return nil, ofNotes(ErrNotOpened, err)
 	}
 	name := url.URL{Scheme: "file", Path: absolute, RawQuery: how}
 	db, err := sql.Open("sqlite3", name.String())
 	if err != nil {
-		return nil, fmt.Errorf("%w: %v", ErrNotes, err)
+		return nil, ofNotes(ErrNotOpened, err)
 	}
 	db.SetMaxOpenConns(1) // one connection, which has the lock
 	if err := prepare(ctx, db, table{lists: listNotNote, makes: makeNotes}); err != nil {
 		db.Close()
-		return nil, fmt.Errorf("%w: %v", ErrNotes, err)
+		if isOfContent(err) {
+			return nil, fmt.Errorf("%w: %v", ErrNotes, err)
+		}
+		return nil, ofNotes(ErrNotOpened, err)
 	}
 	return &Notes{db: db}, nil
 }
 
-// Load gives each volume's path.
+// Load gives each volume's path. It fails with ErrNotes where what the file has is none, and with ErrDevice where it can't be read.
 func (notes *Notes) Load(ctx context.Context) (map[uint64]string, error) {
 	paths, err := notes.load(ctx)
-	if err != nil {
+	if err != nil && isOfContent(err) {
 		return nil, fmt.Errorf("%w: %v", ErrNotes, err)
 	}
+	if err != nil {
+		return nil, ofNotes(ErrDevice, err)
+	}
 	return paths, nil
+}
+
+// ofNotes says of which file it is that something failed which may pass.
+func ofNotes(what, err error) error { return fmt.Errorf("%w: %v: %v", what, ErrNotes, err) }
+
+// isOfContent says whether what failed is that the file has something else than notes, or is damaged: that stays so until somebody mends it.
+func isOfContent(err error) bool {
+	var fault sqlite3.Error
+	if errors.As(err, &fault) {
+		return fault.Code == sqlite3.ErrNotADB || fault.Code == sqlite3.ErrCorrupt || fault.Code == sqlite3.ErrError // the last: columns of others
+	}
+	return errors.Is(err, errTables) || errors.Is(err, errNote)
 }
 
 func (notes *Notes) load(ctx context.Context) (map[uint64]string, error) {
@@ -71,10 +95,10 @@ func (notes *Notes) load(ctx context.Context) (map[uint64]string, error) {
 		var volume []byte
 		var path string
 		if err := rows.Scan(&volume, &path); err != nil {
-			return nil, err
+			return nil, fmt.Errorf("%w: %v", errNote, err)
 		}
 		if len(volume) != 8 {
-			return nil, errors.New("a volume that is none")
+			return nil, errNote
 		}
 		paths[binary.BigEndian.Uint64(volume)] = path
 	}
@@ -99,7 +123,7 @@ func (notes *Notes) Commit(ctx context.Context, changes []Note) error {
 		return nil
 	})
 	if err != nil {
-		return fmt.Errorf("%w: %v", ErrNotes, err)
+		return ofNotes(ErrDevice, err)
 	}
 	return nil
 }
@@ -107,7 +131,7 @@ func (notes *Notes) Commit(ctx context.Context, changes []Note) error {
 // Close gives the file up.
 func (notes *Notes) Close() error {
 	if err := closeFile(notes.db, &notes.writer); err != nil {
-		return fmt.Errorf("%w: the last checkpoint: %v", ErrNotes, err)
+		return ofNotes(ErrDevice, fmt.Errorf("the last checkpoint: %v", err))
 	}
 	return nil
 }

@@ -66,6 +66,9 @@ type table struct {
 	judge        func(context.Context, *sql.DB) error
 }
 
+// errTables says that a file is another one's.
+var errTables = errors.New("it has other tables")
+
 // prepare makes what is missing, and takes the file's lock. It changes no other database.
 func prepare(ctx context.Context, db *sql.DB, has table) error {
 	var others int
@@ -73,7 +76,7 @@ func prepare(ctx context.Context, db *sql.DB, has table) error {
 		return err
 	}
 	if others > 0 {
-		return errors.New("it has other tables")
+		return errTables
 	}
 	if has.judge != nil {
 		if err := has.judge(ctx, db); err != nil {

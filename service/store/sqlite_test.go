@@ -8,6 +8,7 @@ import (
 	"os"
 	"path/filepath"
 	"reflect"
+	"strings"
 	"testing"
 )
 
@@ -67,6 +68,54 @@ func TestNotes(t *testing.T) {
 		t.Errorf("it has %q, %v", paths, err)
 	}
 	notes.Close()
+}
+
+// A file that has something else than notes is told as such, what can't be opened, read or written now as it is of the record's file: that may pass.
+func TestNotesFail(t *testing.T) {
+	ctx, folder := context.Background(), t.TempDir()
+	wants := func(what string, err, want error) {
+		t.Helper()
+		if !errors.Is(err, want) || want != ErrNotes && (errors.Is(err, ErrNotes) || !strings.Contains(err.Error(), ErrNotes.Error())) {
+			t.Errorf("%s: %v, not %v", what, err, want)
+		}
+	}
+	damaged := filepath.Join(folder, "damaged")
+	if err := os.WriteFile(damaged, []byte(strings.Repeat("no database", 1000)), 0o600); err != nil {
+		t.Fatal(err)
+	}
+	_, err := OpenNotes(ctx, damaged)
+	wants("a damaged file", err, ErrNotes)
+	_, err = OpenNotes(ctx, filepath.Join(folder, "none", "notes"))
+	wants("no folder", err, ErrNotOpened)
+	for table, want := range map[string]error{
+		"(volume BLOB NOT NULL PRIMARY KEY, path TEXT NOT NULL); INSERT INTO staged VALUES (x'01', '/a')": ErrNotes,
+		"(volume BLOB NOT NULL PRIMARY KEY, other TEXT)":                                                  ErrNotes,
+		"(volume BLOB NOT NULL PRIMARY KEY, path TEXT NOT NULL)":                                          nil,
+	} {
+		path := filepath.Join(t.TempDir(), "notes")
+		db, err := sql.Open("sqlite3", path)
+		if err != nil {
+			t.Fatal(err)
+		}
+		if _, err := db.Exec("CREATE TABLE staged " + table); err != nil {
+			t.Fatal(err)
+		}
+		db.Close()
+		notes, err := OpenNotes(ctx, path)
+		if err != nil {
+			t.Fatal(err)
+		}
+		if _, err := notes.Load(ctx); want != nil {
+			wants(table, err, want)
+		} else if err != nil {
+			t.Errorf("%s: %v", table, err)
+		}
+		notes.db.Close() // as if its device was gone
+		_, err = notes.Load(ctx)
+		wants("reading", err, ErrDevice)
+		wants("a commit", notes.Commit(ctx, []Note{{Volume: 1, Path: "/a"}}), ErrDevice)
+		wants("closing", notes.Close(), ErrDevice)
+	}
 }
 
 // A database with another table is refused, and stays as it is.
