@@ -157,7 +157,7 @@ func (deed Deed) judgeContext(answer Answer) error {
 			return fmt.Errorf("%w has a context of more than %d bytes", errAnswer, MaxMap)
 		}
 		for key, value := range context {
-			for _, secret := range deed.Private.Secrets {
+			for _, secret := range deed.Private.secrets() {
 				if secret != "" && (strings.Contains(key, secret) || strings.Contains(value, secret)) {
 					return fmt.Errorf("%w tells a secret", errAnswer)
 				}

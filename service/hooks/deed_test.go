@@ -55,6 +55,30 @@ func TestHide(t *testing.T) {
 	}
 }
 
+// A secret with an end of the line, or of several lines, is hidden without the space around it, and so is each line that is long enough.
+func TestHideLines(t *testing.T) {
+	deed := Deed{Private: Private{Secrets: map[string]string{"ended": "s3cret\n", "short": "abc\r\n", "lines": "one two\n\n\tthree\nxy\n", "none": " \n"}}}
+	for text, want := range map[string]string{
+		"with s3cret, abc":                      "with ***, ***",
+		"one two, three, xy":                    "***, ***, xy",
+		"all: one two\n\n\tthree\nxy\nand on":   "all: ***\nand on",
+		"no end: one two\n\n\tthree\nxy and on": "no end: *** and on",
+		"one\ntwo":                              "one\ntwo",
+		" \n":                                   " \n",
+		"a b":                                   "a b",
+	} {
+		if hidden := deed.Hide(text); hidden != want {
+			t.Errorf("%q is %q, not %q", text, hidden, want)
+		}
+	}
+	deed.Call = "CreateVolume"
+	for value, tells := range map[string]bool{"a s3cret b": true, "abc": true, "three": true, "xy": false} {
+		if _, err := deed.ReadAnswer([]byte(`{"volume_context":{"k":"` + value + `"}}`)); (err != nil) != tells {
+			t.Errorf("a context with %s: %v", value, err)
+		}
+	}
+}
+
 // What a command answers is an object with the call's own context, of no more than CSI has, in which no secret stands; or nothing.
 func TestAnswers(t *testing.T) {
 	long := strings.Repeat("x", MaxMap)

@@ -7,12 +7,15 @@ import (
 	"unicode/utf8"
 )
 
-const hidden = "***"
+const (
+	hidden    = "***"
+	leastLine = 4 // bytes of a line that tells something of a secret of several
+)
 
-// Hide gives a text with *** in place of each secret of the deed, and of each parameter and mount flag where it stands as a word of its own: a flag
-// may be as short as ro.
+// Hide gives a text with *** in place of each secret of the deed, and of each of its lines, and of each parameter and mount flag where it stands as a
+// word of its own: a flag may be as short as ro.
 func (deed Deed) Hide(text string) string {
-	for _, secret := range longestFirst(valuesOf(deed.Private.Secrets)) {
+	for _, secret := range longestFirst(deed.Private.secrets()) {
 		text = strings.ReplaceAll(text, secret, hidden)
 	}
 	words := append(valuesOf(deed.Private.Parameters), deed.Private.MountFlags...)
@@ -20,6 +23,20 @@ func (deed Deed) Hide(text string) string {
 		text = hideWord(text, word)
 	}
 	return text
+}
+
+// secrets are the secrets as a command may tell them, each without the space around it, as a shell takes it away: whole, or a line of several.
+func (private Private) secrets() []string {
+	var texts []string
+	for _, secret := range valuesOf(private.Secrets) {
+		texts = append(texts, strings.TrimSpace(secret))
+		for _, line := range strings.Split(secret, "\n") {
+			if line = strings.TrimSpace(line); len(line) >= leastLine {
+				texts = append(texts, line)
+			}
+		}
+	}
+	return texts
 }
 
 func valuesOf(values map[string]string) []string {

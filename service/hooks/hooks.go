@@ -134,8 +134,8 @@ func (run running) await(ctx context.Context, command *exec.Cmd) error {
 // fault is what a command that failed said last, without what is private.
 func (run running) fault(err error, output, faults *os.File) error {
 	for _, file := range []*os.File{faults, output} {
-		if line := lastLine(last(file)); line != "" {
-			return errors.New(run.deed.Hide(line))
+		if line := lastLine(run.deed.Hide(last(file))); line != "" { // hidden before: a secret may have several lines
+			return errors.New(line)
 		}
 	}
 	return fmt.Errorf("%s: %w", run.command, err)

@@ -112,6 +112,24 @@ func TestFailing(t *testing.T) {
 	}
 }
 
+// A secret of several lines, or with an end of the line that a shell takes away, isn't told either, whichever line of it is the last one.
+func TestFailingWithLines(t *testing.T) {
+	deed := stage
+	deed.Private.Secrets = map[string]string{"ended": "k3y\n", "lines": "the first\r\n  the second\nx\n"}
+	for script, want := range map[string]string{
+		`echo "no k3y" >&2`:                              "no ***",
+		`echo "no the second thing" >&2`:                 "no *** thing",
+		`printf 'no the first\r\n  the second\nx\n' >&2`: "no ***",
+		`printf 'the first\r\n  the second\nx' >&2`:      "***",
+		`echo "the x" >&2`:                               "the x",
+	} {
+		_, err := newPlace(t).commands(script+"; exit 1", time.Minute).Do(context.Background(), deed)
+		if err == nil || err.Error() != want {
+			t.Errorf("%s: %v, not %s", script, err, want)
+		}
+	}
+}
+
 func TestSlow(t *testing.T) {
 	for _, isEnded := range []bool{false, true} {
 		place := newPlace(t)
