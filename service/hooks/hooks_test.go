@@ -11,6 +11,8 @@ import (
 	"syscall"
 	"testing"
 	"time"
+
+	"golang.org/x/sys/unix"
 )
 
 // A place is a folder with a command, and with what that writes.
@@ -177,7 +179,18 @@ func TestDaemon(t *testing.T) {
 // driven is the environment of this test's binary, run again as a driver that is killed while a command runs.
 const driven = "TUFAYON_TEST_DRIVEN"
 
+// unserved is that of the binary as a process that has a folder open whose server never answers.
+const unserved = "TUFAYON_TEST_UNSERVED"
+
 func TestMain(m *testing.M) {
+	if folder := os.Getenv(unserved); folder != "" {
+		if err := openUnserved(folder); err != nil {
+			fmt.Fprintln(os.Stderr, err)
+			os.Exit(1)
+		}
+		time.Sleep(time.Minute)
+		os.Exit(0)
+	}
 	if folder := os.Getenv(driven); folder != "" {
 		commands := Commands{Of: map[string]string{"NodeStageVolume": filepath.Join(folder, "hook")}, Within: time.Minute, Locks: Locks{filepath.Join(folder, "locks")}}
 		commands.Do(context.Background(), stage)
@@ -227,6 +240,76 @@ func TestKilledDriver(t *testing.T) {
 	if place.has("late") {
 		t.Error("it went on")
 	}
+}
+
+// A command of a driver that was killed is found also where the folder of the locks is a link.
+func TestKilledDriverByLink(t *testing.T) {
+	place := newPlace(t)
+	if err := os.Mkdir(place.at("elsewhere"), 0o700); err != nil {
+		t.Fatal(err)
+	}
+	if err := os.Symlink("elsewhere", place.at("locks")); err != nil {
+		t.Fatal(err)
+	}
+	place.killedDriver(fmt.Sprintf("echo $$ > %s; sleep 60", place.at("pid")))
+	id := place.pid("pid")
+	if _, err := place.commands("exit 0", time.Minute).Do(context.Background(), stage); err != nil || lives(id) {
+		t.Errorf("%v, and it lives: %v", err, lives(id))
+	}
+}
+
+// openUnserved mounts a file system of a server that never answers, opens it as far as no server is asked, and says so beside it.
+func openUnserved(folder string) error {
+	server, err := syscall.Open("/dev/fuse", syscall.O_RDWR, 0)
+	if err != nil {
+		return err
+	}
+	if err := syscall.Mount("none", folder, "fuse", 0, fmt.Sprintf("fd=%d,rootmode=40000,user_id=0,group_id=0", server)); err != nil {
+		return err
+	}
+	if _, err := syscall.Open(folder, unix.O_PATH, 0); err != nil {
+		return err
+	}
+	return os.WriteFile(folder+".open", nil, 0o600)
+}
+
+// What a process has open whose server is gone isn't waited for where the command of a driver that was killed is looked for.
+func TestUnserved(t *testing.T) {
+	place := newPlace(t)
+	if err := os.Mkdir(place.at("mount"), 0o700); err != nil {
+		t.Fatal(err)
+	}
+	other := exec.Command(os.Args[0])
+	other.Env = append(os.Environ(), unserved+"="+place.at("mount"))
+	other.SysProcAttr = &syscall.SysProcAttr{Unshareflags: syscall.CLONE_NEWNS}
+	if err := other.Start(); err != nil {
+		t.Skipf("left out, since there is no mount namespace: %v", err)
+	}
+	over := make(chan error, 1)
+	go func() { over <- other.Wait() }()
+	defer other.Process.Kill()
+	for !place.has("mount.open") {
+		select {
+		case <-over:
+			t.Skip("left out, since nothing of FUSE's may be mounted")
+		case <-time.After(5 * time.Millisecond):
+		}
+	}
+	place.killedDriver(fmt.Sprintf("echo $$ > %s; sleep 60", place.at("pid")))
+	commands, ended := place.commands("exit 0", time.Minute), make(chan error, 1)
+	go func() {
+		_, err := commands.Do(context.Background(), stage)
+		ended <- err
+	}()
+	select {
+	case err := <-ended:
+		if err != nil {
+			t.Error(err)
+		}
+	case <-time.After(10 * time.Second):
+		t.Error("it waits for who doesn't answer")
+	}
+	place.wantsDead(place.pid("pid"))
 }
 
 // What left the group of a command that is over, with its lock, isn't killed, and holds nothing up.

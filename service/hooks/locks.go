@@ -93,7 +93,7 @@ func endHolders(path string) (bool, error) {
 	if err != nil {
 		return false, err
 	}
-	file, err := os.Stat(path)
+	locked, err := lockedAt(path)
 	if err != nil {
 		return false, err
 	}
@@ -104,7 +104,7 @@ func endHolders(path string) (bool, error) {
 	held := false
 	for _, process := range processes {
 		id, _ := strconv.Atoi(filepath.Base(process))
-		if id == os.Getpid() || !hasOpen(process, file) {
+		if id == os.Getpid() || !locked.isOpenIn(process) {
 			continue
 		}
 		group, err := syscall.Getpgid(id)
@@ -124,14 +124,35 @@ func endHolders(path string) (bool, error) {
 	return held, nil
 }
 
-// hasOpen says whether a process has a file open.
-func hasOpen(process string, file os.FileInfo) bool {
+// A locked is the file of a lock, that somebody may have open.
+type locked struct {
+	path string // without symbolic links, as the kernel shows it
+	file os.FileInfo
+}
+
+func lockedAt(path string) (locked, error) {
+	file, err := os.Stat(path)
+	if err != nil {
+		return locked{}, err
+	}
+	if path, err = filepath.Abs(path); err == nil {
+		path, err = filepath.EvalSymlinks(path)
+	}
+	return locked{path, file}, err
+}
+
+// isOpenIn says whether a process has the file open. Of what else it has open only the names are read: who asks for more may wait for ever for a server
+// that is gone.
+func (locked locked) isOpenIn(process string) bool {
 	open, err := filepath.Glob(process + "/fd/*")
 	if err != nil {
 		return false
 	}
 	for _, it := range open {
-		if other, err := os.Stat(it); err == nil && os.SameFile(file, other) {
+		if name, err := os.Readlink(it); err != nil || strings.TrimSuffix(name, " (deleted)") != locked.path {
+			continue
+		}
+		if other, err := os.Stat(it); err == nil && os.SameFile(locked.file, other) {
 			return true
 		}
 	}
