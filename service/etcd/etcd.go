@@ -22,6 +22,7 @@ const (
 	pingAfter  = 10 * time.Second // of silence: a server that is cut off is left then, and another one asked
 	pingWithin = 3 * time.Second
 	again      = 500 * time.Millisecond // until what failed is tried again
+	giveBack   = 3 * time.Second        // what it may take, once it is to end, to give back a place among those who wait to lead
 )
 
 // Config says where a store is in etcd, and how this process leads.
@@ -53,7 +54,10 @@ func (config Config) Open(ctx context.Context) (store.Store, error) {
 	if err != nil {
 		return nil, err
 	}
+	led := make(chan struct{})
+	go closeLate(ctx, client, led)
 	opened, err := config.lead(ctx, client)
+	close(led)
 	if err == nil {
 		if err = opened.begin(ctx); err == nil {
 			err = opened.judge(ctx, config.Texts)
@@ -82,6 +86,21 @@ func (config Config) client() (*clientv3.Client, error) {
 		return nil, fmt.Errorf("%w: %v", store.ErrNotOpened, err)
 	}
 	return client, nil
+}
+
+// closeLate closes a client some time after the context has ended, unless leading is decided by then. Who waits to lead gives its place back, for which only
+// the client's end is an end: else a process would wait for an etcd that is gone until that is back. The place goes with the lease then.
+func closeLate(ctx context.Context, client *clientv3.Client, led <-chan struct{}) {
+	select {
+	case <-led:
+		return
+	case <-ctx.Done():
+	}
+	select {
+	case <-led:
+	case <-time.After(giveBack):
+		client.Close()
+	}
 }
 
 // errWaited says that what a process waited with is over: it begins to wait again.

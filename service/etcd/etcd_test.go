@@ -4,8 +4,11 @@ import (
 	"context"
 	"errors"
 	"fmt"
+	"io"
+	"net"
 	"reflect"
 	"strings"
+	"sync"
 	"testing"
 	"time"
 
@@ -227,4 +230,85 @@ func TestTexts(t *testing.T) {
 			t.Errorf("%+v is opened: %v", other, err)
 		}
 	}
+}
+
+// A process that waits to lead ends soon after it is told to, also where etcd is gone by then.
+func TestWaitingAlone(t *testing.T) {
+	config := server(t)
+	kept := open(t, config)
+	defer kept.Close()
+	waiting := config
+	way, cut := cable(t, config.Endpoints[0])
+	waiting.Endpoints = []string{way}
+	ctx, end := context.WithCancel(context.Background())
+	defer end()
+	ended := make(chan error, 1)
+	go func() {
+		_, err := waiting.Open(ctx)
+		ended <- err
+	}()
+	for until := time.Now().Add(20 * time.Second); ; time.Sleep(20 * time.Millisecond) {
+		got, err := kept.client.Get(ctx, config.leaderKey(), clientv3.WithPrefix(), clientv3.WithCountOnly())
+		if err == nil && got.Count == 2 {
+			break
+		}
+		if time.Now().After(until) {
+			t.Fatalf("it doesn't wait: %v, %v", got, err)
+		}
+	}
+	time.Sleep(200 * time.Millisecond) // now it watches who leads
+	cut()
+	end()
+	select {
+	case err := <-ended:
+		if !errors.Is(err, store.ErrNotOpened) {
+			t.Errorf("it ended with %v", err)
+		}
+	case <-time.After(giveBack + 10*time.Second):
+		t.Error("it doesn't end")
+	}
+}
+
+// cable is a way to a server, until it is cut.
+func cable(t *testing.T, endpoint string) (way string, cut func()) {
+	t.Helper()
+	listener, err := net.Listen("tcp", "127.0.0.1:0")
+	if err != nil {
+		t.Fatal(err)
+	}
+	var mutex sync.Mutex
+	var ends []net.Conn
+	isCut := false
+	cut = func() {
+		mutex.Lock()
+		defer mutex.Unlock()
+		isCut = true
+		listener.Close()
+		for _, it := range ends {
+			it.Close()
+		}
+	}
+	t.Cleanup(cut)
+	go func() {
+		for {
+			from, err := listener.Accept()
+			if err != nil {
+				return
+			}
+			to, err := net.Dial("tcp", serverOf(endpoint))
+			if err != nil {
+				from.Close()
+				continue
+			}
+			mutex.Lock()
+			if ends = append(ends, from, to); isCut {
+				from.Close()
+				to.Close()
+			}
+			mutex.Unlock()
+			go io.Copy(from, to)
+			go io.Copy(to, from)
+		}
+	}()
+	return "http://" + listener.Addr().String(), cut
 }
