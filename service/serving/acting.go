@@ -77,17 +77,16 @@ func (acts *acts) forget(volume uint64) {
 // do carries out a call that does something: the plugin is asked, its reply committed, and then what it allows is done, unless that is known to be
 // done. Where that fails no reply is given: the store has what may be there.
 func (core *Core) do(ctx context.Context, key key, request Request, joined *act) (Answer, error) {
-	var asked asked
-	err := core.inTurn(ctx, func(group *group) (bool, error) {
-		plan, err := core.plan(ctx, request, true)
-		if err != nil {
-			return false, err
-		}
-		asked, err = core.askAll(group, plan)
-		return true, err
-	})
+	makes := request.Act != nil && request.Bind == nil && key.volume == 0
+	asked, isMine, err := core.askFor(ctx, ctx, request, makes)
+	if err == nil && makes && asked.isOK && !isMine {
+		asked, isMine, err = core.askBehind(ctx, request, asked)
+	}
 	if err != nil {
 		return Answer{}, err
+	}
+	if isMine { // a volume was made: nobody else acts on it meanwhile
+		defer core.turns.leave(asked.made())
 	}
 	if asked.isAnothers {
 		return Answer{}, numbers.ErrNumber
@@ -98,18 +97,54 @@ func (core *Core) do(ctx context.Context, key key, request Request, joined *act)
 	if !asked.isFresh {
 		joined = nil // a duplicate is known by its number alone
 	}
-	if request.Bind == nil && key.volume == 0 { // a volume was made: nobody else acts on it meanwhile
-		made := keyOf(Request{Body: frames.DeleteVolume{ID: asked.known.Volume}})
-		if err := core.turns.take(context.Background(), made, nil); err != nil {
-			return Answer{}, err
-		}
-		defer core.turns.leave(made)
-	}
 	asked.answer.Acted, err = core.act(key, request, asked.known, joined)
 	if err != nil {
 		return Answer{}, request.failed(err)
 	}
 	return asked.answer, core.keepAfter(request, asked.known, asked.answer.Acted)
+}
+
+// made is the key of the volume that a call made, or that has its name.
+func (asked asked) made() key { return key{volume: asked.known.Volume} }
+
+// askFor asks the plugin, unless the context until ends before. Of a call that makes a volume it takes that one's turn in the same moment, so that what was
+// answered holds, unless somebody has it.
+func (core *Core) askFor(ctx, until context.Context, request Request, makes bool) (asked asked, isMine bool, err error) {
+	err = core.inTurn(until, func(group *group) (bool, error) {
+		plan, err := core.plan(ctx, request, true)
+		if err != nil {
+			return false, err
+		}
+		if asked, err = core.askAll(group, plan); err == nil && makes && asked.isOK {
+			isMine = core.turns.takeFree(asked.made())
+		}
+		return true, err
+	})
+	if err != nil && isMine {
+		core.turns.leave(asked.made())
+		isMine = false
+	}
+	return asked, isMine, err
+}
+
+// askBehind waits for the turn of the volume that a call which makes one was answered with, where somebody has it, and asks anew there: that volume may
+// have been deleted meanwhile, and then another one is made.
+func (core *Core) askBehind(ctx context.Context, request Request, before asked) (asked, bool, error) {
+	for {
+		had := before.made()
+		if err := core.turns.take(context.Background(), had, nil); err != nil {
+			return before, false, err
+		}
+		now, isMine, err := core.askFor(ctx, context.Background(), request, true) // its caller is waited for no more
+		if err == nil && now.isOK && now.made() == had {
+			return now, true, nil
+		}
+		core.turns.leave(had)
+		if err != nil || !now.isOK || isMine {
+			return now, isMine, err
+		}
+		before = now
+	}
 }
 
 // act does what a call asks for, unless that is known to be done, and gives what Act gave.

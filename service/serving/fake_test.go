@@ -99,6 +99,15 @@ func (fake *fake) there() int {
 	return count
 }
 
+// idOf is the length of a name, as good an id as any, or where that volume was deleted, ten more.
+func (fake *fake) idOf(name string) uint64 {
+	volume := uint64(len(name))
+	for row, known := fake.rows[volume]; known && !row.there; row, known = fake.rows[volume] {
+		volume += 10
+	}
+	return volume
+}
+
 func (fake *fake) Answer(frame []byte) ([]byte, error) {
 	if err := fake.fault.take(&fake.fault.answer); err != nil {
 		return nil, err
@@ -111,7 +120,7 @@ func (fake *fake) Answer(frame []byte) ([]byte, error) {
 	reply := frames.Reply{Number: call.Number, Node: call.Node, Kind: call.Kind()}
 	volume := call.Volume()
 	if create, is := call.Body.(frames.CreateVolume); is {
-		volume = uint64(len(create.Name)) // as good an id as any
+		volume = fake.idOf(create.Name)
 		reply.Volume = volume
 	}
 	row, known := fake.rows[volume]

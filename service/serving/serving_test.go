@@ -319,6 +319,43 @@ func TestMaking(t *testing.T) {
 	}
 }
 
+// A volume that is asked for while the one of its name is deleted is made anew, once that is over; where it couldn't be deleted, it is the same one.
+func TestMakingWhileDeleted(t *testing.T) {
+	for _, fault := range []error{nil, errors.New("it is busy")} {
+		kept, deed, undo := newMemory(), done(), newDeed()
+		core, err := Open(context.Background(), Config{
+			Make: making(10, &faults{}), Store: kept, Numbering: func(latest uint64) (numbers.Source, error) { return numbers.NewArrival(latest) },
+		})
+		if err != nil {
+			t.Fatal(err)
+		}
+		defer core.Close()
+		ctx := context.Background()
+		wants(t, core, ctx, create("abc").by(deed), codes.OK)
+		removed := carry(core, ctx, Request{Body: frames.DeleteVolume{ID: 3}}.by(undo))
+		<-undo.begun
+		made := make(chan Answer)
+		go func() { made <- wants(t, core, ctx, create("abc").by(deed), codes.OK) }()
+		for waiting(core, key{volume: 3}) < 1 {
+			time.Sleep(time.Millisecond)
+		}
+		undo.goOn <- fault
+		want, code := uint64(13), codes.OK
+		if fault != nil {
+			want, code = 3, codes.Unavailable
+		}
+		wantsError(t, removed, code)
+		if answer := <-made; answer.Reply.Volume != want || answer.Acted != fmt.Sprint(want) || !kept.has(want) || deed.times() != 2 {
+			t.Errorf("%v: volume %d, made as %v by deed %d; the store has it: %v", fault, answer.Reply.Volume, answer.Acted, deed.times(), kept.has(want))
+		}
+		for _, volume := range []uint64{3, 13} {
+			if core.turns.isTaken(key{volume: volume}) {
+				t.Errorf("the turn of volume %d is taken still", volume)
+			}
+		}
+	}
+}
+
 // A call whose caller gave up before its turn isn't carried out.
 func TestGivenUp(t *testing.T) {
 	kept, slow := newMemory(), newDeed()

@@ -80,6 +80,17 @@ func (turns *turns) take(ctx context.Context, key key, done <-chan struct{}) err
 	}
 }
 
+// takeFree takes a key that nobody has, or says that somebody has it.
+func (turns *turns) takeFree(key key) bool {
+	turns.mutex.Lock()
+	defer turns.mutex.Unlock()
+	if _, taken := turns.queues[key]; taken {
+		return false
+	}
+	turns.queues[key] = nil
+	return true
+}
+
 // isTaken says whether somebody has a key.
 func (turns *turns) isTaken(key key) bool {
 	turns.mutex.Lock()
