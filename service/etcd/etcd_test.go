@@ -258,6 +258,7 @@ func TestWaitingAlone(t *testing.T) {
 	}
 	time.Sleep(200 * time.Millisecond) // now it watches who leads
 	cut()
+	time.Sleep(time.Second) // now it knows
 	end()
 	select {
 	case err := <-ended:
