@@ -208,7 +208,7 @@ func (it *copying) agrees() {
 func TestDrawnCopies(t *testing.T) {
 	tried, older, ends, seeds := 0, 0, 0, int64(12)
 	if testing.Short() {
-		seeds = 6
+		seeds = 4
 	}
 	for seed := int64(1); seed <= seeds; seed++ {
 		it := &copying{shard: newShard(t), random: rand.New(rand.NewSource(seed)), kept: hosttest.NewStore()}

@@ -233,7 +233,11 @@ func (net *network) audit(volume host.Volume) {
 // Callers at work over a bad network, a service that is ended and begun again, a node that goes for a while, and one that is lost and joins again: then all
 // comes to rest, and what the orchestrator says is what the plugins have.
 func TestDrawn(t *testing.T) {
-	for seed := int64(1); seed <= 3; seed++ {
+	seeds := int64(3)
+	if testing.Short() {
+		seeds = 1
+	}
+	for seed := int64(1); seed <= seeds; seed++ {
 		t.Run(fmt.Sprint("seed ", seed), func(t *testing.T) { drawn(t, seed) })
 	}
 }

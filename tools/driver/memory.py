@@ -132,6 +132,6 @@ def orchestrator(box):
 
 def cases(drawn, _seed):
     for of_node, name in ((False, "a controller"), (True, "a node")):
-        yield f"memory: {name}", each(of_node, 1 if drawn > 1000 else 6)
+        yield f"memory: {name}", each(of_node, 1 if drawn > 1000 else 9)
     if drawn > 1000:
         yield "memory: an orchestrator", orchestrator

@@ -36,11 +36,11 @@ service_linked() {
 }
 
 # `go build`, `vet` or `test`, with the race detector: for programs and tests alike, so that each package is compiled once. It compiles quickly: no call is
-# inlined, nothing is written for debuggers, and Go's commands, and what they run, collect garbage seldom.
+# inlined, nothing is written for debuggers, and Go's commands collect no garbage and have a processor each.
 detecting() {
     local command="$1"
     shift
-    GOGC=400 go "$command" -race "-gcflags=all=-l -dwarf=false" "$@"
+    GOGC=off GOMAXPROCS=1 go "$command" -race "-gcflags=all=-l -dwarf=false" "$@"
 }
 
 # Has a program that detecting built, where it finds a race, write that to a file in the folder $1, and end with status 66.
