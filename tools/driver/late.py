@@ -99,7 +99,7 @@ def sessions(box):
 
 
 MOST = 4096  # volumes of a controller, and of a node
-GONE = 100
+GONE = 20
 
 
 def full(box):
