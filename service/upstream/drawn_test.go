@@ -50,7 +50,7 @@ type drawn struct {
 func TestDrawn(t *testing.T) {
 	count := 800
 	if testing.Short() {
-		count = 300
+		count = 200
 	}
 	if set, err := strconv.Atoi(os.Getenv("TUFAYON_TEST_DRAWN")); err == nil {
 		count = set
