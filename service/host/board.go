@@ -12,8 +12,12 @@ import (
 // ErrSlow says that a watcher was too slow to get all that happened.
 var ErrSlow = errors.New("the watcher is too slow")
 
-// watched is how many events a watcher may be behind.
-const watched = 1024
+// watched is how many events a watcher may be behind, and ofEach how many beside those for each name that there was at once: a session tells of each, and
+// what is wanted of it is told anew.
+const (
+	watched = 1024
+	ofEach  = 3
+)
 
 // A board has what was committed last, for all who want to read it.
 type board struct {
@@ -27,6 +31,7 @@ type board struct {
 	troubles map[string]string // why plugins haven't begun the session, by their names
 	heard    map[string]frames.Number
 	watchers map[*Watching]bool
+	most     int // events that a watcher may be behind
 	isClosed bool
 }
 
@@ -46,7 +51,9 @@ type freed struct {
 const mostFreed = 4096
 
 func newBoard() *board {
-	return &board{volumes: map[string]posted{}, troubles: map[string]string{}, heard: map[string]frames.Number{}, watchers: map[*Watching]bool{}}
+	return &board{
+		volumes: map[string]posted{}, troubles: map[string]string{}, heard: map[string]frames.Number{}, watchers: map[*Watching]bool{}, most: watched,
+	}
 }
 
 // note notes why a plugin hasn't begun the session, or with no text that it has.
@@ -101,6 +108,9 @@ func (host *Host) publish(work *work) {
 		board.tell(name, Event{Volume: volume})
 		board.volumes[name] = posted{volume, board.count}
 	}
+	if most := watched + ofEach*len(board.volumes); most > board.most {
+		board.most = most
+	}
 	if work.lost != "" {
 		board.tell("", Event{Lost: work.lost})
 	}
@@ -126,11 +136,13 @@ func (board *board) tell(name string, event Event) {
 		if it.name != "" && it.name != name {
 			continue
 		}
-		select {
-		case it.events <- event:
-		default:
+		if len(it.events) >= board.most {
+			it.events = nil // it has to begin again
 			board.drop(it, ErrSlow)
+			continue
 		}
+		it.events = append(it.events, event)
+		it.wake()
 	}
 }
 
@@ -139,7 +151,7 @@ func (board *board) drop(it *Watching, why error) {
 	if board.watchers[it] {
 		delete(board.watchers, it)
 		it.err = why
-		close(it.events)
+		it.wake()
 	}
 }
 
@@ -230,13 +242,16 @@ type Watching struct {
 	Current []Event // the volumes as they were at that moment, by their names, if they are wanted
 	board   *board
 	name    string
-	events  chan Event
-	err     error // why it ended, once the events are closed
+	came    chan struct{} // has room for one: something came, or it ended
+
+	// These are the board's to change.
+	events []Event // that came and weren't taken
+	err    error   // why it ended
 }
 
 // Watch begins to watch all that happens, or what happens to the volume of a name. Its end has to be asked for.
 func (host *Host) Watch(current bool, name string) *Watching {
-	it := &Watching{board: host.board, name: name, events: make(chan Event, watched)}
+	it := &Watching{board: host.board, name: name, came: make(chan struct{}, 1)}
 	board := host.board
 	board.mutex.Lock()
 	defer board.mutex.Unlock()
@@ -255,25 +270,36 @@ func (host *Host) Watch(current bool, name string) *Watching {
 	return it
 }
 
-// Events are what happens. The channel is closed where the host ended, or the watcher was too slow.
-func (it *Watching) Events() <-chan Event { return it.events }
+// wake has it look what came. The lock is held.
+func (it *Watching) wake() {
+	select {
+	case it.came <- struct{}{}:
+	default:
+	}
+}
+
+// take gives what came, or why nothing comes any more.
+func (it *Watching) take() ([]Event, error) {
+	it.board.mutex.Lock()
+	defer it.board.mutex.Unlock()
+	if events := it.events; len(events) > 0 {
+		it.events = nil
+		return events, nil
+	}
+	return nil, it.err
+}
 
 // Next waits for the next events, and gives all that are there. It fails with ErrSlow, ErrEnded, or the context's error.
 func (it *Watching) Next(ctx context.Context) ([]Event, error) {
-	select {
-	case event, more := <-it.events:
-		if !more {
-			return nil, it.err
+	for {
+		if events, err := it.take(); len(events) > 0 || err != nil {
+			return events, err
 		}
-		events := []Event{event}
-		for len(it.events) > 0 {
-			if event, more = <-it.events; more {
-				events = append(events, event)
-			}
+		select {
+		case <-it.came:
+		case <-ctx.Done():
+			return nil, ctx.Err()
 		}
-		return events, nil
-	case <-ctx.Done():
-		return nil, ctx.Err()
 	}
 }
 

@@ -241,6 +241,27 @@ func TestWatch(t *testing.T) {
 	}
 }
 
+// A session tells a watcher of each volume, however many there are: by that alone it isn't too slow.
+func TestWatchMany(t *testing.T) {
+	const count = 1100
+	made := open(t, hosttest.NewStore(), &hosttest.Carrier{}, quick, "n1")
+	for at := 0; at < count; at++ {
+		does(t, made, create(fmt.Sprint("v", at)))
+	}
+	watching := made.Watch(false, "")
+	defer watching.End()
+	if _, err := made.Begin(ctx, nil, "a test"); err != nil {
+		t.Fatal(err)
+	}
+	for seen := 0; seen < count; {
+		events, err := watching.Next(ctx)
+		if err != nil {
+			t.Fatalf("behind %d events: %v", seen, err)
+		}
+		seen += len(events)
+	}
+}
+
 // A caller that has gone before its command was asked changes nothing.
 func TestGone(t *testing.T) {
 	made := open(t, hosttest.NewStore(), &hosttest.Carrier{}, quick)
