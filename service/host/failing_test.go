@@ -150,3 +150,23 @@ func TestRestart(t *testing.T) {
 		t.Errorf("it ended by %v", second.Err())
 	}
 }
+
+// A session's commit is told as under way, as any other one is: so one that takes too long is found.
+func TestSessionUnderWay(t *testing.T) {
+	kept := hosttest.NewStore()
+	made := open(t, kept, &hosttest.Carrier{}, quick)
+	does(t, made, create("v")) // by now the controller's beginning is committed too
+	begun := make(chan error, 1)
+	func() {
+		defer kept.Hold()()
+		go func() {
+			_, err := made.Begin(ctx, nil, "a test")
+			begun <- err
+		}()
+		soon(t, "it is under way", func() bool { return made.Counts().Committing > 0 })
+	}()
+	if err := <-begun; err != nil {
+		t.Error(err)
+	}
+	soon(t, "it is over", func() bool { return made.Counts().Committing == 0 })
+}

@@ -10,6 +10,7 @@ import (
 	"errors"
 	"runtime"
 	"sync"
+	"sync/atomic"
 	"time"
 
 	"go.uber.org/zap"
@@ -56,7 +57,7 @@ type Options struct {
 
 // A Host is an orchestrator that runs. Its methods may be called side by side.
 type Host struct {
-	committing int64 // since when a commit is under way, in Unix nanoseconds, or 0
+	committing atomic.Pointer[time.Time] // since when a commit is under way: nil where none is
 
 	carrier   Carrier
 	times     Times

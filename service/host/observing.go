@@ -2,7 +2,6 @@ package host
 
 import (
 	"context"
-	"sync/atomic"
 	"time"
 
 	"tufayon/service/frames"
@@ -89,14 +88,20 @@ func (host *Host) commit() error {
 		return nil
 	}
 	began := time.Now()
-	atomic.StoreInt64(&host.committing, began.UnixNano())
-	err := host.core.commit(context.Background())
-	atomic.StoreInt64(&host.committing, 0)
+	err := host.underWay(func() error { return host.core.commit(context.Background()) })
 	took := time.Since(began)
 	for _, observer := range host.observers {
 		observer.Committed(took, err)
 	}
 	return err
+}
+
+// underWay has a commit made, which is told as under way meanwhile.
+func (host *Host) underWay(commit func() error) error {
+	began := time.Now()
+	host.committing.Store(&began)
+	defer host.committing.Store(nil)
+	return commit()
 }
 
 // Counts are how many there are of what an operator watches.
@@ -109,8 +114,8 @@ type Counts struct {
 // Counts counts now.
 func (host *Host) Counts() Counts {
 	counts := Counts{Waiting: len(host.commands)}
-	if began := atomic.LoadInt64(&host.committing); began != 0 {
-		counts.Committing = time.Since(time.Unix(0, began))
+	if began := host.committing.Load(); began != nil {
+		counts.Committing = time.Since(*began)
 	}
 	host.board.mutex.RLock()
 	defer host.board.mutex.RUnlock()

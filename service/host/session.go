@@ -36,7 +36,7 @@ func (it *beginning) ask(host *Host, work *work) error {
 	if nodes == nil {
 		nodes = host.core.nodes
 	}
-	err := host.core.begin(context.Background(), nodes)
+	err := host.underWay(func() error { return host.core.begin(context.Background(), nodes) })
 	if err != nil && (it.isNeeded || !isRefusal(err)) {
 		return err
 	}
