@@ -11,12 +11,15 @@ import (
 	"testing"
 	"time"
 
+	"go.uber.org/zap"
 	"google.golang.org/grpc"
 
+	"tufayon/service/api"
 	"tufayon/service/api/wire"
 	"tufayon/service/carrying/carryingtest"
 	"tufayon/service/program"
 	"tufayon/service/secure"
+	"tufayon/service/settings"
 )
 
 const within = 10 * time.Second // what should come soon
@@ -149,6 +152,38 @@ func TestService(t *testing.T) {
 		t.Errorf("after a restart: %v, %v", volume, err)
 	}
 	stop()
+}
+
+// A process that is told to end while it begins to lead ends with 0, and leaves its store as good as before.
+func TestEndedBeforeItLeads(t *testing.T) {
+	made := newFiles(t)
+	made.list("n1")
+	read, err := settings.Read(made.path(made.process))
+	if err != nil {
+		t.Fatal(err)
+	}
+	running := &service{settings: read, log: zap.NewNop(), roles: &api.Roles{}}
+	running.clients = &clients{roles: running.roles, of: map[string]time.Time{}}
+	if err := running.connect(); err != nil {
+		t.Fatal(err)
+	}
+	defer running.carrier.Close()
+	if running.watching, err = running.watch(); err != nil {
+		t.Fatal(err)
+	}
+	defer running.watching.close()
+	kept, err := program.OpenStore(context.Background(), &read.Process.Place, read.Process.Address)
+	if err != nil {
+		t.Fatal(err)
+	}
+	ctx, stop := context.WithCancel(context.Background())
+	stop()
+	if err := running.lead(ctx, kept, nil); program.StatusOf(err) != 0 {
+		t.Errorf("it ended with %d: %v", program.StatusOf(err), err)
+	}
+	if err := kept.Close(); err != nil {
+		t.Error(err)
+	}
 }
 
 func TestWords(t *testing.T) {

@@ -165,6 +165,9 @@ func (running *service) lead(ctx context.Context, kept store.Store, served <-cha
 		Times: host.Times{Patience: settings.Seconds(times.Patience), Retry: settings.Seconds(times.Retry), MostRetry: settings.Seconds(times.MostRetry)},
 	})
 	if err != nil {
+		if ctx.Err() != nil {
+			return nil // it was ended while it began to lead
+		}
 		return err
 	}
 	defer running.host.Close()
