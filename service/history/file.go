@@ -15,11 +15,12 @@ import (
 )
 
 // A file has the base in its first line, and an entry in each one behind it. It is written anew once it has four times as many entries as are
-// kept. Nothing waits for the disk: a machine that dies loses the last ones.
+// kept, or twice as many bytes. Nothing waits for the disk: a machine that dies loses the last ones.
 type file struct {
 	path    string
 	to      *os.File
 	lines   int
+	size    int   // of these lines
 	isStale bool  // it has to be written anew
 	fault   error // what the last writing failed by
 	err     error // why it isn't written any more
@@ -78,7 +79,7 @@ func (made *History) read(content []byte) error {
 			}
 			break
 		}
-		made.put(entry)
+		made.put(entry, len(line))
 	}
 	return nil
 }
@@ -104,7 +105,7 @@ func (made *History) save() {
 	if it.err != nil {
 		return
 	}
-	if it.isStale || it.lines > 4*made.most {
+	if it.isStale || it.lines > 4*made.most || it.size > 2*mostBytes {
 		it.err = made.rewrite()
 	} else {
 		it.writeOf(made.last)
@@ -140,7 +141,7 @@ func (made *History) rewrite() error {
 	if it.to != nil {
 		it.to.Close()
 	}
-	it.to, it.lines, it.isStale = anew, made.count, false
+	it.to, it.lines, it.size, it.isStale = anew, made.count, made.size, false
 	made.last.written = len(made.last.lines)
 	return nil
 }

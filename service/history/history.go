@@ -20,6 +20,9 @@ import (
 // Usual is how many events are kept.
 const Usual = 10000
 
+// mostBytes is how many bytes the lines may have of those that are kept: a volume that is in use at many places has large ones. Fewer in a test.
+var mostBytes = 32 << 20
+
 // A base is what was before the first event that is kept: of the service, or of a volume.
 type base struct {
 	Config json.RawMessage         `json:"config,omitempty"`
@@ -40,6 +43,7 @@ type History struct {
 	packs   []*pack                 // all entries
 	last    *pack                   // the last one of these, which is filled
 	count   int                     // of the entries
+	size    int                     // of their lines, in bytes
 	fresh   int                     // how many are packed together
 	entries []recent                // the last ones
 	before  uint64                  // how many there were before these
@@ -125,12 +129,13 @@ func (made *History) take(it *host.Happening) {
 		made.cut(map[string]*records.Row{it.Name: it.Before})
 	}
 	last := made.last
+	before := len(last.lines)
 	last.lines = made.plugins.appendHappening(last.lines, it)
 	made.rows[it.Name] = it.Row
 	if it.Row == nil {
 		delete(made.rows, it.Name)
 	}
-	made.add(recent{happened: it})
+	made.add(recent{happened: it}, len(last.lines)-before)
 }
 
 // takeWhole takes in a session, or a loss.
@@ -142,15 +147,16 @@ func (made *History) takeWhole(it *host.Happening) {
 	}
 	entry.Rows = made.begins(it)
 	entry.Config = made.config
+	line := appendLine(nil, entry)
 	if made.file != nil {
 		made.file.writeOf(made.last) // what came before
-		made.file.write(appendLine(nil, entry))
+		made.file.write(line)
 	}
-	made.put(entry)
+	made.put(entry, len(line))
 }
 
-// put takes in an entry that is there.
-func (made *History) put(entry *Entry) {
+// put takes in an entry that is there, whose line has so many bytes.
+func (made *History) put(entry *Entry, size int) {
 	it := recent{entry: entry, isCut: entry.IsCut}
 	if !entry.isWhole() {
 		entry.IsCut = false // a mark says so
@@ -161,7 +167,7 @@ func (made *History) put(entry *Entry) {
 	if made.before == 0 && made.count == 0 && made.base.Config == nil {
 		made.base.Config, made.base.Nodes = entry.Config, entry.Nodes
 	}
-	made.add(it)
+	made.add(it, size)
 }
 
 // isMissing says whether another service led, or nothing was kept, in the session after which this process's first one begins.

@@ -7,8 +7,10 @@ import (
 	"tufayon/service/records"
 )
 
-// mostFresh is how many of the last entries are kept as they came too, at least, if there are so many; and how many are packed together.
-const mostFresh = 200
+const (
+	mostFresh = 200 // of the last entries are kept as they came too, at least, if there are so many; and are packed together
+	mostPacks = 16  // a pack has no more than one in so many of the bytes that may be kept, and a line
+)
 
 // A pack has entries as they are written, in a few large pieces: as structs, so many would be gone through by each collection of garbage.
 type pack struct {
@@ -22,6 +24,7 @@ type pack struct {
 // A mark says where an entry's line and name end.
 type mark struct {
 	line, name uint32
+	size       uint32 // of its line, wherever that is
 	isCut      bool
 }
 
@@ -136,8 +139,8 @@ func newPack(count, lines, names int) *pack {
 	return &pack{marks: make([]mark, 0, count), lines: make([]byte, 0, lines+lines/8), names: make([]byte, 0, names+names/8)}
 }
 
-// add takes in an entry whose line is there, and lets the oldest go where there are too many.
-func (made *History) add(it recent) {
+// add takes in an entry whose line is there, of so many bytes, and lets the oldest go where there are too many, or too large ones.
+func (made *History) add(it recent, size int) {
 	last := made.last
 	if it.isWhole() {
 		if last.whole == nil {
@@ -146,29 +149,36 @@ func (made *History) add(it recent) {
 		last.whole[len(last.marks)] = it.entry
 	}
 	last.names = append(last.names, it.name()...)
-	last.marks = append(last.marks, mark{line: uint32(len(last.lines)), name: uint32(len(last.names)), isCut: it.isCut})
+	last.marks = append(last.marks, mark{line: uint32(len(last.lines)), name: uint32(len(last.names)), size: uint32(size), isCut: it.isCut})
 	made.count++
+	made.size += size
 	if made.file != nil {
 		made.file.lines++
+		made.file.size += size
 	}
 	made.entries = append(made.entries, it)
 	if len(made.entries) >= 2*made.fresh {
-		left := copy(made.entries, made.entries[made.fresh:])
-		for at := left; at < len(made.entries); at++ {
-			made.entries[at] = recent{}
-		}
-		made.entries = made.entries[:left]
+		made.leave(made.fresh)
 	}
-	if len(last.marks) == made.fresh {
+	if len(last.marks) == made.fresh || len(last.lines) > mostBytes/mostPacks {
 		if made.file != nil {
 			made.file.writeOf(last)
 		}
 		made.last = newPack(made.fresh, len(last.lines), len(last.names))
 		made.packs = append(made.packs, made.last)
 	}
-	for made.count > made.most {
+	for made.count > made.most || made.size > mostBytes && made.count > 1 {
 		made.drop()
 	}
+}
+
+// leave leaves so many of the last entries.
+func (made *History) leave(count int) {
+	left := copy(made.entries, made.entries[len(made.entries)-count:])
+	for at := left; at < len(made.entries); at++ {
+		made.entries[at] = recent{}
+	}
+	made.entries = made.entries[:left]
 }
 
 // beginsWith says of what the oldest entry is: nothing of one of a volume.
@@ -185,6 +195,7 @@ func (made *History) drop() {
 	at := it.first
 	it.first++
 	made.count--
+	made.size -= int(it.marks[at].size)
 	switch whole := it.whole[at]; {
 	case whole != nil:
 		for name := range whole.Rows {
@@ -192,6 +203,7 @@ func (made *History) drop() {
 		}
 		made.learn(whole, made.base.Rows)
 		made.base.Config, made.base.Nodes = whole.Config, whole.Nodes
+		delete(it.whole, at)
 	case !it.marks[at].isCut && len(it.name(at)) > 0:
 		kept := made.late[string(it.name(at))]
 		if kept == nil {
@@ -204,6 +216,9 @@ func (made *History) drop() {
 		made.packs = append([]*pack(nil), made.packs[1:]...)
 	}
 	made.before++
+	if len(made.entries) > made.count {
+		made.leave(made.count)
+	}
 }
 
 // settled is the base, with all that it has lines of.

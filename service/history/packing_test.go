@@ -2,8 +2,10 @@ package history
 
 import (
 	"fmt"
+	"os"
 	"path/filepath"
 	"reflect"
+	"strings"
 	"testing"
 	"time"
 
@@ -84,4 +86,56 @@ func TestPacked(t *testing.T) {
 	if last, count, _ := again.Last("", 2*most, 0); !reflect.DeepEqual(last, want[len(want)-most:]) || count != 1001 {
 		t.Errorf("read again: of %d, %+v", count, last)
 	}
+}
+
+// What is kept is bounded by bytes too, in memory and in the file, since a volume that is in use at many places has large lines; and it says what it said.
+func TestLarge(t *testing.T) {
+	defer func(before int) { mostBytes = before }(mostBytes)
+	mostBytes = 256 << 10
+	path := filepath.Join(t.TempDir(), "history")
+	made, err := Open(path, 1000, zap.NewNop())
+	if err != nil {
+		t.Fatal(err)
+	}
+	const count = 200
+	var last *records.Row
+	made.keep([][]host.Happening{{{What: host.Began, Session: 1, Why: "it starts"}}})
+	for at := 0; at < count; at++ {
+		row := &records.Row{Wanted: records.Wanted{Name: "v", Required: uint64(at)}}
+		for node := 0; node < 32; node++ {
+			row.At = append(row.At, records.At{Node: fmt.Sprint("n", node, strings.Repeat("-", 200))})
+		}
+		made.keep([][]host.Happening{{{What: host.TimedOut, Session: 1, Name: "v", Before: last, Row: row}}})
+		last = row
+	}
+	check := func(what string, made *History) {
+		t.Helper()
+		kept, _ := made.Count()
+		size := 0
+		for _, it := range made.packs {
+			size += cap(it.lines)
+		}
+		if all := len(made.all("")); kept != all || kept < 20 || kept > 40 || len(made.entries) > kept || size > 2*mostBytes {
+			t.Errorf("%s: %d events are kept, %d and %d, in %d bytes", what, kept, all, len(made.entries), size)
+		}
+		if file, err := os.Stat(path); err != nil || file.Size() > int64(3*mostBytes) {
+			t.Errorf("%s: the file has %d bytes, %v", what, file.Size(), err)
+		}
+		if before := made.settled().Rows["v"]; before == nil || before.Required != uint64(count-kept-1) {
+			t.Errorf("%s: before the first it is %+v", what, before)
+		}
+		if all, _, _ := made.Last("v", count, 0); len(all) != kept || all[kept-1].Row.Required != count-1 {
+			t.Errorf("%s: the last ones are %d", what, len(all))
+		}
+	}
+	check("in memory", made)
+	if err := made.Close(); err != nil {
+		t.Fatal(err)
+	}
+	again, err := Open(path, 1000, zap.NewNop())
+	if err != nil {
+		t.Fatal(err)
+	}
+	defer again.Close()
+	check("read again", again)
 }
