@@ -21,11 +21,12 @@ type pack struct {
 	written      int            // so many bytes of lines the file has
 }
 
-// A mark says where an entry's line and name end.
+// A mark says where an entry's line and name end, and what else is known of it without reading it.
 type mark struct {
 	line, name uint32
 	size       uint32 // of its line, wherever that is
 	isCut      bool
+	hasRow     bool // the volume has a row then
 }
 
 func (it *pack) line(at int) []byte {
@@ -139,6 +140,14 @@ func newPack(count, lines, names int) *pack {
 	return &pack{marks: make([]mark, 0, count), lines: make([]byte, 0, lines+lines/8), names: make([]byte, 0, names+names/8)}
 }
 
+// hasRow says whether the volume has a row then.
+func (it *recent) hasRow() bool {
+	if it.entry != nil {
+		return it.entry.Row != nil
+	}
+	return it.happened.Row != nil
+}
+
 // add takes in an entry whose line is there, of so many bytes, and lets the oldest go where there are too many, or too large ones.
 func (made *History) add(it recent, size int) {
 	last := made.last
@@ -149,7 +158,9 @@ func (made *History) add(it recent, size int) {
 		last.whole[len(last.marks)] = it.entry
 	}
 	last.names = append(last.names, it.name()...)
-	last.marks = append(last.marks, mark{line: uint32(len(last.lines)), name: uint32(len(last.names)), size: uint32(size), isCut: it.isCut})
+	last.marks = append(last.marks, mark{
+		line: uint32(len(last.lines)), name: uint32(len(last.names)), size: uint32(size), isCut: it.isCut, hasRow: it.hasRow(),
+	})
 	made.count++
 	made.size += size
 	if made.file != nil {
@@ -204,7 +215,11 @@ func (made *History) drop() {
 		made.learn(whole, made.base.Rows)
 		made.base.Config, made.base.Nodes = whole.Config, whole.Nodes
 		delete(it.whole, at)
-	case !it.marks[at].isCut && len(it.name(at)) > 0:
+	case it.marks[at].isCut || len(it.name(at)) == 0:
+	case !it.marks[at].hasRow: // as after a refusal of a name that never was: nothing is left of it
+		delete(made.late, string(it.name(at)))
+		delete(made.base.Rows, string(it.name(at)))
+	default:
 		kept := made.late[string(it.name(at))]
 		if kept == nil {
 			kept = new([]byte)

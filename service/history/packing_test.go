@@ -139,3 +139,20 @@ func TestLarge(t *testing.T) {
 	defer again.Close()
 	check("read again", again)
 }
+
+// Who asks for volumes that never were, by ever other names, leaves nothing behind once that isn't kept any more.
+func TestNobodys(t *testing.T) {
+	const most = 50
+	made, err := Open("", most, zap.NewNop())
+	if err != nil {
+		t.Fatal(err)
+	}
+	defer made.Close()
+	for at := 0; at < 20*most; at++ {
+		name := fmt.Sprint("x", at)
+		made.keep([][]host.Happening{{{What: host.Commanded, Name: name, Command: host.Command{Kind: host.Delete, Name: name}, Refusal: 2}}})
+	}
+	if left := len(made.late) + len(made.base.Rows) + len(made.rows); left > most {
+		t.Errorf("something is left of %d names", left)
+	}
+}
