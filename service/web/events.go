@@ -27,6 +27,8 @@ const (
 type stream struct {
 	to      http.ResponseWriter
 	flusher http.Flusher
+	request *http.Request
+	page    *Page
 	source  *Source
 	err     error
 
@@ -66,7 +68,7 @@ func (page *Page) events(to http.ResponseWriter, request *http.Request) {
 	}
 	defer page.leave()
 	to.Header().Set("Content-Type", "text/event-stream")
-	it := &stream{to: to, flusher: flusher, source: &page.source}
+	it := &stream{to: to, flusher: flusher, request: request, page: page, source: &page.source}
 	ctx, cancel := context.WithTimeout(request.Context(), streamLife)
 	defer cancel()
 	go func() {
@@ -95,6 +97,9 @@ func (it *stream) send(message message) {
 			it.bytes = append(appendEntries(it.bytes, message.entries), "]}"...)
 		}
 		it.bytes = append(it.bytes, "\n\n"...)
+		if raw := connectionOf(it.request); raw != nil { // a page that takes nothing doesn't keep its place
+			defer time.AfterFunc(it.page.stuck, func() { raw.Close() }).Stop()
+		}
 		_, err = it.to.Write(it.bytes)
 		it.flusher.Flush()
 	}

@@ -32,6 +32,7 @@ const mostStreams = 64
 // A Page shows an orchestrator's service.
 type Page struct {
 	source  Source
+	stuck   time.Duration // how long what is told may wait for who follows to take it
 	drawing chan struct{} // has as many as pictures are drawn at once
 	ended   context.Context
 	end     context.CancelFunc
@@ -42,7 +43,7 @@ type Page struct {
 
 // NewPage makes a page.
 func NewPage(source Source) *Page {
-	made := &Page{source: source, drawing: make(chan struct{}, 2)}
+	made := &Page{source: source, stuck: mostStuck, drawing: make(chan struct{}, 2)}
 	made.ended, made.end = context.WithCancel(context.Background())
 	return made
 }

@@ -25,6 +25,17 @@ type Options struct {
 	Known   credentials.TransportCredentials // at a Unix socket: who may connect
 }
 
+// mostStuck is how long what is told may wait for who follows to take it.
+const mostStuck = time.Minute
+
+// A connectionKey is that of the connection in a request's context.
+type connectionKey struct{}
+
+func connectionOf(request *http.Request) net.Conn {
+	raw, _ := request.Context().Value(connectionKey{}).(net.Conn)
+	return raw
+}
+
 // A Server serves until it is closed.
 type Server struct {
 	options Options
@@ -42,7 +53,11 @@ func New(options Options) *Server {
 		options.Page.route(routes)
 	}
 	made.http = &http.Server{
-		Handler: made.guard(routes), TLSConfig: options.TLS, ReadHeaderTimeout: 10 * time.Second, IdleTimeout: 2 * time.Minute, MaxHeaderBytes: 16 << 10,
+		Handler: made.guard(routes), TLSConfig: options.TLS, ReadHeaderTimeout: 10 * time.Second, WriteTimeout: streamLife + mostStuck,
+		IdleTimeout: 2 * time.Minute, MaxHeaderBytes: 16 << 10,
+		ConnContext: func(ctx context.Context, raw net.Conn) context.Context {
+			return context.WithValue(ctx, connectionKey{}, raw)
+		},
 	}
 	if options.Log != nil {
 		made.http.ErrorLog, _ = zap.NewStdLogAt(options.Log, zap.DebugLevel)

@@ -1,0 +1,82 @@
+package web
+
+import (
+	"fmt"
+	"net"
+	"net/http"
+	"sync"
+	"testing"
+	"time"
+
+	"tufayon/service/carrying"
+	"tufayon/service/host"
+)
+
+const within = 10 * time.Second // what should come soon
+
+// pipes are connections that have no room: who writes waits for who reads.
+type pipes struct {
+	made  chan net.Conn
+	ended chan struct{}
+	once  sync.Once
+}
+
+func (it *pipes) Accept() (net.Conn, error) {
+	select {
+	case raw := <-it.made:
+		return raw, nil
+	case <-it.ended:
+		return nil, net.ErrClosed
+	}
+}
+
+func (it *pipes) Close() error {
+	it.once.Do(func() { close(it.ended) })
+	return nil
+}
+
+func (it *pipes) Addr() net.Addr { return &net.UnixAddr{Name: "pipes", Net: "unix"} }
+
+// ask connects, and sends a request.
+func (it *pipes) ask(t *testing.T, path string) net.Conn {
+	t.Helper()
+	ours, its := net.Pipe()
+	it.made <- its
+	t.Cleanup(func() { ours.Close() })
+	fmt.Fprintf(ours, "GET %s HTTP/1.1\r\nHost: localhost\r\n\r\n", path)
+	return ours
+}
+
+// waiting serves the page of a process that doesn't lead, and of which another one does.
+func waiting(t *testing.T, options Options, leader func() string) (*Page, *pipes) {
+	page := NewPage(Source{
+		Set: "s1", Host: func() *host.Host { return nil }, Leader: leader, Plugins: func() map[string]carrying.State { return nil },
+		Slots: func() map[string]uint64 { return nil },
+	})
+	page.stuck = 50 * time.Millisecond
+	options.Metrics, options.Ready, options.Page = http.NotFoundHandler(), func() bool { return true }, page
+	server, listener := New(options), &pipes{made: make(chan net.Conn), ended: make(chan struct{})}
+	go server.Serve(listener)
+	t.Cleanup(func() { server.Close() })
+	return page, listener
+}
+
+func first() string { return "the first" }
+
+// soon wants that so many pages follow.
+func (page *Page) soon(t *testing.T, streams int) {
+	t.Helper()
+	for end := time.Now().Add(within); page.Streams() != streams; time.Sleep(time.Millisecond) {
+		if time.Now().After(end) {
+			t.Fatalf("%d pages follow, not %d", page.Streams(), streams)
+		}
+	}
+}
+
+// A page that takes nothing of what it is told doesn't keep its place.
+func TestStuck(t *testing.T) {
+	page, at := waiting(t, Options{}, first)
+	at.ask(t, "/events")
+	page.soon(t, 1)
+	page.soon(t, 0)
+}
