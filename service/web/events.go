@@ -112,16 +112,19 @@ func (it *stream) begin(leads bool, count int) *begin {
 	return &begin{Set: it.source.Set, Leads: leads, Leader: it.source.Leader(), Draws: it.source.Draws != "", Count: count}
 }
 
-// wait tells that this process doesn't lead, as long as it is so.
+// wait tells that this process doesn't lead, as long as it is so, and who does.
 func (it *stream) wait(ctx context.Context) {
-	it.send(message{Begin: it.begin(false, 0), Plugins: it.source.plugins(nil), IsWhole: true})
-	last := time.Now()
-	for ctx.Err() == nil && it.err == nil && it.source.Host() == nil {
-		if time.Since(last) > mostSilent {
-			it.send(message{})
-			last = time.Now()
+	var told *begin
+	for when := (time.Time{}); ctx.Err() == nil && it.err == nil && it.source.Host() == nil; sleep(ctx, together) {
+		if time.Since(when) < it.page.silent {
+			continue
 		}
-		sleep(ctx, together)
+		when = time.Now()
+		more := message{Plugins: it.source.plugins(nil)}
+		if now := it.begin(false, 0); told == nil || told.Leader != now.Leader {
+			told, more.Begin, more.IsWhole = now, now, true
+		}
+		it.send(more)
 	}
 }
 
@@ -225,7 +228,7 @@ func (it *stream) entries() []history.Entry {
 // plugins tells how it stands with them, where that changed, or it was told long ago.
 func (it *stream) plugins(leads *host.Host) {
 	present := it.source.plugins(leads)
-	if reflect.DeepEqual(present, it.told) && time.Since(it.when) < mostSilent {
+	if reflect.DeepEqual(present, it.told) && time.Since(it.when) < it.page.silent {
 		return
 	}
 	it.told, it.when = present, time.Now()

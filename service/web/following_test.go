@@ -1,10 +1,14 @@
 package web
 
 import (
+	"bufio"
+	"encoding/json"
 	"fmt"
 	"net"
 	"net/http"
+	"strings"
 	"sync"
+	"sync/atomic"
 	"testing"
 	"time"
 
@@ -53,7 +57,7 @@ func waiting(t *testing.T, options Options, leader func() string) (*Page, *pipes
 		Set: "s1", Host: func() *host.Host { return nil }, Leader: leader, Plugins: func() map[string]carrying.State { return nil },
 		Slots: func() map[string]uint64 { return nil },
 	})
-	page.stuck = 50 * time.Millisecond
+	page.stuck, page.silent = 50*time.Millisecond, 20*time.Millisecond
 	options.Metrics, options.Ready, options.Page = http.NotFoundHandler(), func() bool { return true }, page
 	server, listener := New(options), &pipes{made: make(chan net.Conn), ended: make(chan struct{})}
 	go server.Serve(listener)
@@ -79,4 +83,24 @@ func TestStuck(t *testing.T) {
 	at.ask(t, "/events")
 	page.soon(t, 1)
 	page.soon(t, 0)
+}
+
+// A page of a process that doesn't lead is told who does, also where another one does later.
+func TestLeader(t *testing.T) {
+	var leads atomic.Value
+	leads.Store("the first")
+	_, at := waiting(t, Options{}, func() string { return leads.Load().(string) })
+	lines := bufio.NewScanner(at.ask(t, "/events"))
+	for _, leader := range []string{"the first", "the second"} {
+		leads.Store(leader)
+		for end := time.Now().Add(within); ; {
+			if !lines.Scan() || time.Now().After(end) {
+				t.Fatalf("it isn't told of %s, %v", leader, lines.Err())
+			}
+			var told struct{ Begin *struct{ Leader string } }
+			if text := strings.TrimPrefix(lines.Text(), "data: "); json.Unmarshal([]byte(text), &told) == nil && told.Begin != nil && told.Begin.Leader == leader {
+				break
+			}
+		}
+	}
 }
