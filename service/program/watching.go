@@ -47,7 +47,7 @@ func (watch Watch) Serve(options web.Options) (end func(), err error) {
 			watch.Log.Warn("who would watch is refused", zap.Stringer("from", from), zap.Error(why))
 		}}
 	case !web.IsLoopback(watch.Address):
-		options.TLS = watch.Files.HTTPS(watch.Admit, watch.Seen)
+		options.TLS, options.Judge = watch.Files.HTTPS(watch.Admit, watch.Seen), watch.Files.Judging(watch.Admit)
 	}
 	options.Log = watch.Log
 	server := web.New(options)

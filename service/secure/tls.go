@@ -64,6 +64,11 @@ func (files Files) HTTPS(admit Admit, seen Seen) *tls.Config {
 	}
 }
 
+// Judging judges who is at the other end of a connection of HTTPS once more, as when it was made: its certificate may have ended since then.
+func (files Files) Judging(admit Admit) func(tls.ConnectionState) error {
+	return files.verify(x509.ExtKeyUsageClientAuth, admit)
+}
+
 // Seeing are a server's credentials that tell who was let in.
 func Seeing(known credentials.TransportCredentials, seen Seen) credentials.TransportCredentials {
 	return seeing{known, seen}

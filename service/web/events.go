@@ -20,7 +20,7 @@ const (
 	mostSilent  = 5 * time.Second        // and told, with the time, at the latest
 	mostVolumes = 512                    // in one message
 	mostEntries = 200                    // that a page shows
-	streamLife  = time.Hour              // of one that follows, which then begins anew: whose certificate has ended doesn't
+	streamLife  = time.Hour              // of one that follows, which then begins anew
 )
 
 // A stream is a page that follows, by server-sent events: each message is an object with a key for each thing that it tells.
@@ -120,11 +120,19 @@ func (it *stream) wait(ctx context.Context) {
 			continue
 		}
 		when = time.Now()
+		it.judge()
 		more := message{Plugins: it.source.plugins(nil)}
 		if now := it.begin(false, 0); told == nil || told.Leader != now.Leader {
 			told, more.Begin, more.IsWhole = now, now, true
 		}
 		it.send(more)
+	}
+}
+
+// judge ends it where who follows may not any more.
+func (it *stream) judge() {
+	if err := it.page.judge(it.request); it.err == nil {
+		it.err = err
 	}
 }
 
@@ -167,6 +175,7 @@ func (it *stream) follow(ctx context.Context, leads *host.Host) {
 		}
 		if began.Sub(looked) >= beat {
 			looked = began
+			it.judge()
 			it.plugins(leads)
 		}
 		tick.Reset(rest(time.Since(began)))

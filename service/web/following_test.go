@@ -2,8 +2,11 @@ package web
 
 import (
 	"bufio"
+	"crypto/tls"
 	"encoding/json"
+	"errors"
 	"fmt"
+	"io"
 	"net"
 	"net/http"
 	"strings"
@@ -12,8 +15,12 @@ import (
 	"testing"
 	"time"
 
+	"google.golang.org/grpc/credentials"
+
 	"tufayon/service/carrying"
 	"tufayon/service/host"
+	"tufayon/service/secure"
+	"tufayon/service/secure/securetest"
 )
 
 const within = 10 * time.Second // what should come soon
@@ -102,5 +109,76 @@ func TestLeader(t *testing.T) {
 				break
 			}
 		}
+	}
+}
+
+// door lets in who connects, until it is shut.
+type door struct {
+	credentials.TransportCredentials
+	isShut atomic.Bool
+}
+
+var errShut = errors.New("it is shut")
+
+func (it *door) judge() error {
+	if it.isShut.Load() {
+		return errShut
+	}
+	return nil
+}
+
+func (it *door) ServerHandshake(raw net.Conn) (net.Conn, credentials.AuthInfo, error) {
+	return raw, nil, it.judge()
+}
+
+// Who may ask no more is refused at the next request, over the connection that it has too, and follows no more.
+func TestJudged(t *testing.T) {
+	its := &door{}
+	page, at := waiting(t, Options{Known: its}, first)
+	page.stuck = within
+	go io.Copy(io.Discard, at.ask(t, "/events"))
+	page.soon(t, 1)
+	connection := at.ask(t, "/healthz")
+	answers := bufio.NewReader(connection)
+	wants := func(status int) {
+		t.Helper()
+		answer, err := http.ReadResponse(answers, nil)
+		if err != nil || answer.StatusCode != status {
+			t.Fatalf("%v, %v, not %d", answer, err, status)
+		}
+		answer.Body.Close()
+	}
+	wants(200)
+	page.soon(t, 1)
+	its.isShut.Store(true)
+	fmt.Fprintf(connection, "GET /healthz HTTP/1.1\r\nHost: localhost\r\n\r\n")
+	wants(403)
+	page.soon(t, 0)
+}
+
+// Over TLS likewise, as it is judged when one connects.
+func TestJudgedOverTLS(t *testing.T) {
+	its, authority := &door{}, securetest.NewAuthority(t)
+	later := time.Now().Add(time.Hour)
+	own, client := authority.Issue(t, t.TempDir(), later, "tufayon://s1/orchestrator"), authority.Issue(t, t.TempDir(), later, "tufayon://s1/client/p")
+	admit := func(secure.Name) error { return its.judge() }
+	_, at := waiting(t, Options{TLS: own.HTTPS(admit, nil), Judge: own.Judging(admit)}, first)
+	shown, err := tls.LoadX509KeyPair(client.Certificate, client.Key)
+	if err != nil {
+		t.Fatal(err)
+	}
+	ours, theirs := net.Pipe()
+	at.made <- theirs
+	connection := tls.Client(ours, &tls.Config{Certificates: []tls.Certificate{shown}, InsecureSkipVerify: true})
+	defer ours.Close()
+	answers := bufio.NewReader(connection)
+	for _, want := range []int{200, 200, 403} {
+		its.isShut.Store(want == 403)
+		fmt.Fprintf(connection, "GET /healthz HTTP/1.1\r\nHost: localhost\r\n\r\n")
+		answer, err := http.ReadResponse(answers, nil)
+		if err != nil || answer.StatusCode != want {
+			t.Fatalf("%v, %v, not %d", answer, err, want)
+		}
+		answer.Body.Close()
 	}
 }

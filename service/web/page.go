@@ -32,9 +32,10 @@ const mostStreams = 64
 // A Page shows an orchestrator's service.
 type Page struct {
 	source  Source
-	stuck   time.Duration // how long what is told may wait for who follows to take it
-	silent  time.Duration // how often it is told something, at least
-	drawing chan struct{} // has as many as pictures are drawn at once
+	judge   func(*http.Request) error // judges once more who follows
+	stuck   time.Duration             // how long what is told may wait for who follows to take it
+	silent  time.Duration             // how often it is told something, at least
+	drawing chan struct{}             // has as many as pictures are drawn at once
 	ended   context.Context
 	end     context.CancelFunc
 
@@ -44,7 +45,9 @@ type Page struct {
 
 // NewPage makes a page.
 func NewPage(source Source) *Page {
-	made := &Page{source: source, stuck: mostStuck, silent: mostSilent, drawing: make(chan struct{}, 2)}
+	made := &Page{
+		source: source, judge: func(*http.Request) error { return nil }, stuck: mostStuck, silent: mostSilent, drawing: make(chan struct{}, 2),
+	}
 	made.ended, made.end = context.WithCancel(context.Background())
 	return made
 }

@@ -21,7 +21,8 @@ type Options struct {
 	Ready   func() bool                      // whether the process serves, as grpc.health.v1 tells it
 	Page    *Page                            // nil of a process that has none
 	Log     *zap.Logger                      // of what clients do wrong; may be nil
-	TLS     *tls.Config                      // over TCP beyond this machine
+	TLS     *tls.Config                      // over TCP beyond this machine,
+	Judge   func(tls.ConnectionState) error  // and who may ask there, at each request
 	Known   credentials.TransportCredentials // at a Unix socket: who may connect
 }
 
@@ -50,6 +51,7 @@ func New(options Options) *Server {
 	routes.HandleFunc("/healthz", func(to http.ResponseWriter, _ *http.Request) { to.Write([]byte("ok\n")) })
 	routes.HandleFunc("/readyz", made.ready)
 	if options.Page != nil {
+		options.Page.judge = made.judge
 		options.Page.route(routes)
 	}
 	made.http = &http.Server{
@@ -103,6 +105,19 @@ func (made *Server) ready(to http.ResponseWriter, _ *http.Request) {
 	to.Write([]byte("ok\n"))
 }
 
+// judge judges who asks as when it connected: its certificate may have ended since then, or its role.
+func (made *Server) judge(request *http.Request) error {
+	its := &made.options
+	switch {
+	case its.Known != nil:
+		_, _, err := its.Known.ServerHandshake(connectionOf(request))
+		return err
+	case its.Judge != nil && request.TLS != nil:
+		return its.Judge(*request.TLS)
+	}
+	return nil
+}
+
 // policy lets a page load what is served here, and nothing else; no page of others may show it.
 const policy = "default-src 'none'; script-src 'self'; style-src 'self'; img-src 'self'; connect-src 'self'; base-uri 'none'; form-action 'none'; frame-ancestors 'none'"
 
@@ -110,6 +125,11 @@ const policy = "default-src 'none'; script-src 'self'; style-src 'self'; img-src
 // of somebody else.
 func (made *Server) guard(inner http.Handler) http.Handler {
 	return http.HandlerFunc(func(to http.ResponseWriter, request *http.Request) {
+		if made.judge(request) != nil {
+			to.Header().Set("Connection", "close")
+			http.Error(to, "who asks may not", http.StatusForbidden)
+			return
+		}
 		if request.Method != http.MethodGet && request.Method != http.MethodHead {
 			to.Header().Set("Allow", "GET, HEAD")
 			http.Error(to, "this only reads", http.StatusMethodNotAllowed)
