@@ -202,13 +202,20 @@ func replyOf(call frames.Call, method translate.Method, err error) (frames.Reply
 	return reply, nil
 }
 
-// said is what a status says, in short.
+// mostSaid is how many bytes are told of what a driver says: each volume keeps it, and the history.
+const mostSaid = 1024
+
+// said is what a status says, in short. A driver's words may be anything, whole pages too, and what isn't UTF-8 can't be told to callers.
 func said(err error) string {
 	told := status.Convert(err)
 	if told.Code() == codes.OK {
 		return "an answer that says no volume"
 	}
-	return fmt.Sprintf("%d %v %s", told.Code(), told.Code(), told.Message())
+	message := strings.ToValidUTF8(told.Message(), "\ufffd")
+	if len(message) > mostSaid {
+		message = strings.ToValidUTF8(message[:mostSaid], "") + ".."
+	}
+	return fmt.Sprintf("%d %v %s", told.Code(), told.Code(), message)
 }
 
 // A State is how it stands with a plugin.

@@ -3,6 +3,7 @@ package translate
 import (
 	"fmt"
 	"math"
+	"strings"
 
 	"github.com/golang/protobuf/proto"
 	"google.golang.org/grpc/codes"
@@ -102,8 +103,9 @@ func ReplyOf(call frames.Call, response proto.Message, err error) (frames.Reply,
 	return reply, true
 }
 
-// cut gives as many whole characters of a text as have at most so many bytes.
+// cut gives as many whole characters of a text as have at most so many bytes. Bytes that are none become U+FFFD: a driver's words may be anything.
 func cut(text string, most int) string {
+	text = strings.ToValidUTF8(text, "\ufffd")
 	end := 0
 	for at, char := range text {
 		next := at + len(string(char))

@@ -89,6 +89,7 @@ func TestReplies(t *testing.T) {
 		{&wire.CreateVolumeResponse{Volume: &wire.Volume{VolumeId: "07"}}, nil, frames.Reply{}, false},
 		{nil, status.Error(codes.Aborted, "stale"), frames.Reply{Status: 10, Detail: "stale"}, true},
 		{nil, status.Error(codes.Internal, long), frames.Reply{Status: 13, Detail: long[:254]}, true},
+		{nil, status.Error(codes.Internal, "no\xff"), frames.Reply{Status: 13, Detail: "no\ufffd"}, true},
 		{nil, status.Error(codes.Code(17), "no status"), frames.Reply{}, false},
 		{nil, status.Error(codes.DeadlineExceeded, ""), frames.Reply{}, false},
 		{nil, status.Error(codes.Unavailable, ""), frames.Reply{}, false},
