@@ -13,10 +13,11 @@ import (
 	"tufayon/service/api/terms"
 )
 
-const (
-	patience = 30 * time.Second       // how long it is looked for a service that leads
-	again    = 200 * time.Millisecond // until one that doesn't know which one that is is asked again
-)
+// patience is how long it is looked for a service that leads: shorter in a test.
+var patience = 30 * time.Second
+
+// again is how long it takes until a service that doesn't know which one that is is asked again.
+const again = 200 * time.Millisecond
 
 // following has calls made at the service that leads, where the one that was asked says that it doesn't. Then nothing was done.
 type following struct {
@@ -104,14 +105,18 @@ func (it *following) stream(
 		return nil, err
 	}
 	again := func(at *grpc.ClientConn) (grpc.ClientStream, error) {
+		if at == first { // whose streams are this one
+			return begin(ctx, description, first, method, options...)
+		}
 		return at.NewStream(ctx, description, method, options...)
 	}
-	return &followed{ClientStream: made, following: it, at: first, again: again, until: time.Now().Add(patience)}, nil
+	return &followed{ClientStream: made, ctx: ctx, following: it, at: first, again: again, until: time.Now().Add(patience)}, nil
 }
 
 // followed is a stream of one request. Nothing has come of it until the first answer.
 type followed struct {
 	grpc.ClientStream
+	ctx       context.Context // of who asks: that of the stream is over once it ended
 	following *following
 	at        *grpc.ClientConn
 	again     func(*grpc.ClientConn) (grpc.ClientStream, error)
@@ -136,7 +141,7 @@ func (it *followed) RecvMsg(answer any) error {
 		if it.hasCome || !isRefusal {
 			return err
 		}
-		at := it.following.next(it.Context(), it.at, address, it.until)
+		at := it.following.next(it.ctx, it.at, address, it.until)
 		if at == nil {
 			return err
 		}

@@ -164,8 +164,29 @@ func TestLeading(t *testing.T) {
 	time.AfterFunc(500*time.Millisecond, func() { where.Store(leads) })
 	says(t, waiting, "create|w|--block|--wait|--timeout|10s", 0, "w ", "yes")
 	says(t, waiting, "watch|w|--current|--timeout|300ms", 3, "w: at rest, exists yes", "DeadlineExceeded")
+	where.Store("")
+	time.AfterFunc(300*time.Millisecond, func() { where.Store(leads) })
+	says(t, waiting, "watch|w|--current|--timeout|1s", 3, "w: at rest, exists yes", "DeadlineExceeded")
 	where.Store("127.0.0.1:1")
 	says(t, waiting, "list|--timeout|10s", 3, "this service doesn't lead: 127.0.0.1:1 does")
+}
+
+// Where nobody leads it is looked for who does for a while, by calls and by streams, and then that is told.
+func TestNobodyLeads(t *testing.T) {
+	defer func(before time.Duration) { patience = before }(patience)
+	patience = 300 * time.Millisecond
+	listener, err := secure.Listen(filepath.Join(t.TempDir(), "socket"))
+	if err != nil {
+		t.Fatal(err)
+	}
+	roles := &api.Roles{}
+	roles.Set(nil, map[uint32]api.Role{uint32(os.Geteuid()): api.Loses})
+	_, server := api.New(plugins{}, nil, roles, secure.Local{May: roles.MayConnect}, zap.NewNop())
+	go server.Serve(listener)
+	defer server.Stop()
+	for _, line := range []string{"list", "watch"} {
+		says(t, "unix://"+listener.Addr().String(), line+"|--timeout|2s", 3, "this service doesn't lead\n")
+	}
 }
 
 func TestUsage(t *testing.T) {
