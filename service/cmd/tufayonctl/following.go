@@ -7,6 +7,7 @@ import (
 
 	"google.golang.org/grpc"
 	"google.golang.org/grpc/codes"
+	"google.golang.org/grpc/connectivity"
 	"google.golang.org/grpc/metadata"
 	"google.golang.org/grpc/status"
 
@@ -36,30 +37,70 @@ func leader(err error, trailer metadata.MD) (address string, isRefusal bool) {
 	return said[0], true
 }
 
-// next gives the connection at which a refused call is made again, which is the same where it isn't known which service leads: then it waits a while. It
-// gives none where it is too late.
+// next gives the connection at which a refused call is made again. Where it isn't known which service leads, or the one of which that is said isn't reached,
+// as one that has just died, it is the same one, after a while. It gives none where it is too late.
 func (it *following) next(ctx context.Context, same *grpc.ClientConn, address string, until time.Time) *grpc.ClientConn {
 	if time.Now().After(until) {
 		return nil
 	}
-	if address == "" || address == same.Target() {
-		select {
-		case <-ctx.Done():
-			return nil
-		case <-time.After(again):
-			return same
+	if address != "" && address != same.Target() {
+		if made, err := it.reached(ctx, address, until); made != nil || err != nil {
+			return made
 		}
 	}
+	select {
+	case <-ctx.Done():
+		return nil
+	case <-time.After(again):
+		return same
+	}
+}
+
+// reached gives a connection to an address once it is there, and none where nobody is there: nothing was sent, then.
+func (it *following) reached(ctx context.Context, address string, until time.Time) (*grpc.ClientConn, error) {
+	made, err := it.to(address)
+	if err != nil {
+		return nil, err
+	}
+	ctx, cancel := context.WithDeadline(ctx, until)
+	defer cancel()
+	for {
+		switch state := made.GetState(); state {
+		case connectivity.Ready:
+			return made, nil
+		case connectivity.TransientFailure, connectivity.Shutdown:
+			it.forget(address, made)
+			return nil, nil
+		default:
+			if !made.WaitForStateChange(ctx, state) {
+				return nil, nil
+			}
+		}
+	}
+}
+
+// to gives the connection to an address, which is made where there is none.
+func (it *following) to(address string) (*grpc.ClientConn, error) {
 	it.mutex.Lock()
 	defer it.mutex.Unlock()
-	if it.known[address] == nil {
-		made, err := it.dial(address)
-		if err != nil {
-			return nil
-		}
+	if made := it.known[address]; made != nil {
+		return made, nil
+	}
+	made, err := it.dial(address)
+	if err == nil {
 		it.known[address] = made
 	}
-	return it.known[address]
+	return made, err
+}
+
+// forget closes a connection, so that the next one to the address is made at once.
+func (it *following) forget(address string, made *grpc.ClientConn) {
+	it.mutex.Lock()
+	defer it.mutex.Unlock()
+	if it.known[address] == made {
+		delete(it.known, address)
+	}
+	made.Close()
 }
 
 // close closes the connections that it made.

@@ -167,6 +167,12 @@ func TestLeading(t *testing.T) {
 	where.Store("")
 	time.AfterFunc(300*time.Millisecond, func() { where.Store(leads) })
 	says(t, waiting, "watch|w|--current|--timeout|1s", 3, "w: at rest, exists yes", "DeadlineExceeded")
+	where.Store(nobody) // who led, and has just died
+	time.AfterFunc(500*time.Millisecond, func() { where.Store(leads) })
+	says(t, waiting, "get|w|--timeout|10s", 0, "w ", "yes")
+	where.Store(nobody)
+	time.AfterFunc(500*time.Millisecond, func() { where.Store(leads) })
+	says(t, waiting, "watch|w|--current|--timeout|1s", 3, "w: at rest, exists yes", "DeadlineExceeded")
 	where.Store("127.0.0.1:1")
 	says(t, waiting, "list|--timeout|10s", 3, "this service doesn't lead: 127.0.0.1:1 does")
 }
