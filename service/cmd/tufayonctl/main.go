@@ -32,7 +32,7 @@ const (
 	done     = 0
 	refused  = 1 // nothing was changed; or of --wait, what was asked for didn't come to be
 	usage    = 2
-	notKnown = 3 // the service isn't reached, or it isn't known what became of the command
+	notKnown = 3 // the service isn't reached, or it isn't known what became of the command, or its answer can't be printed
 	isNot    = 4 // the volume is in use there, as the record says, and the node says that it isn't mounted
 )
 
@@ -45,16 +45,37 @@ var errUnmounted = errors.New("it isn't mounted")
 // errNothing says that the history has nothing of a volume.
 var errNothing = errors.New("nothing is known of it")
 
+// errUnprinted says that an answer, or a part of it, can't be printed.
+var errUnprinted = errors.New("the answer can't be printed")
+
 // errUsage says that the words are none that the program takes.
 var errUsage = errors.New("usage")
 
+// printed is standard output, and why something couldn't be written to it.
+type printed struct {
+	to  io.Writer
+	err error
+}
+
+func (it *printed) Write(text []byte) (int, error) {
+	count, err := it.to.Write(text)
+	if err != nil {
+		err = fmt.Errorf("%w: %v", errUnprinted, err)
+		it.err = err
+	}
+	return count, err
+}
+
 func run(ctx context.Context, words []string, output, errors io.Writer) int {
-	ctl := &ctl{output: output, errors: errors}
+	ctl := &ctl{output: &printed{to: output}, errors: errors}
 	root := ctl.root()
 	root.SetArgs(words)
-	root.SetOut(output)
+	root.SetOut(ctl.output)
 	root.SetErr(errors)
 	err := root.ExecuteContext(ctx)
+	if err == nil {
+		err = ctl.output.err
+	}
 	if err != nil {
 		fmt.Fprintf(errors, "tufayonctl: %s\n", told(err))
 	}
@@ -79,6 +100,9 @@ func codeOf(err error) int {
 	if errors.Is(err, errUnmounted) {
 		return isNot
 	}
+	if errors.Is(err, errUnprinted) {
+		return notKnown
+	}
 	its, ok := status.FromError(err)
 	if !ok {
 		return usage
@@ -92,9 +116,10 @@ func codeOf(err error) int {
 
 // ctl is the program: its options, and where it writes.
 type ctl struct {
-	output, errors io.Writer
-	connecting     connecting
-	isJSON, waits  bool
+	output        *printed
+	errors        io.Writer
+	connecting    connecting
+	isJSON, waits bool
 }
 
 func (ctl *ctl) root() *cobra.Command {

@@ -8,6 +8,7 @@ import (
 	"path/filepath"
 	"strings"
 	"sync/atomic"
+	"syscall"
 	"testing"
 	"time"
 
@@ -121,6 +122,25 @@ func TestUnmounted(t *testing.T) {
 	says(t, address, "get|v", 0, "n1:/a (not mounted)")
 	says(t, address, "stop|v|n1|/a|--wait", 0, "yes")
 	says(t, address, "delete|v|--wait", 0, "no")
+}
+
+// full is standard output where nothing can be written.
+type full struct{}
+
+func (full) Write([]byte) (int, error) { return 0, syscall.ENOSPC }
+
+// An answer that can't be printed isn't done, in whatever form, and what was asked for may be.
+func TestUnprinted(t *testing.T) {
+	address := serve(t, &hosttest.Carrier{})
+	says(t, address, "create|v|--block|--wait", 0, "yes")
+	for _, line := range []string{"list", "list|--json", "get|v", "nodes", "history", "history|v|--schedule", "watch|--current|--timeout|5s", "create|w|--block|--json"} {
+		var errors bytes.Buffer
+		code := run(context.Background(), append([]string{"--address", address}, strings.Split(line, "|")...), full{}, &errors)
+		if code != 3 || !strings.Contains(errors.String(), "the answer can't be printed: no space left on device") {
+			t.Errorf("%s: %d: %s", line, code, errors.String())
+		}
+	}
+	says(t, address, "get|w", 0, "w ")
 }
 
 // What happened, as lines and as a schedule; and a picture of it, where csi-replay is there.

@@ -20,7 +20,7 @@ import (
 func (ctl *ctl) print(answer proto.Message, asTable func()) error {
 	if !ctl.isJSON {
 		asTable()
-		return nil
+		return ctl.output.err
 	}
 	text, err := (&jsonpb.Marshaler{OrigName: true, EmitDefaults: true}).MarshalToString(answer)
 	if err != nil {
