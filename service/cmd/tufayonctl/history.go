@@ -7,6 +7,7 @@ import (
 	"io"
 	"os"
 	"time"
+	"unicode"
 
 	"github.com/spf13/cobra"
 	"google.golang.org/grpc"
@@ -50,7 +51,7 @@ func (ctl *ctl) happened(events []*wire.Happened) {
 			if it.Name != "" {
 				name = quoted(it.Name)
 			}
-			fmt.Fprintf(to, "%s\t%d\t%s\t%s\n", time.UnixMilli(it.Time).Format("2006-01-02T15:04:05.000Z07:00"), it.Session, name, it.Text)
+			fmt.Fprintf(to, "%s\t%d\t%s\t%s\n", time.UnixMilli(it.Time).Format("2006-01-02T15:04:05.000Z07:00"), it.Session, name, lined(it.Text))
 		}
 	})
 }
@@ -58,7 +59,7 @@ func (ctl *ctl) happened(events []*wire.Happened) {
 // quoted has a name that isn't of printable characters alone as a literal, so that an event is a line.
 func quoted(name string) string {
 	for _, it := range name {
-		if it < ' ' || it == 0x7f || it == '\ufffd' {
+		if unicode.IsControl(it) || it == '\ufffd' {
 			return fmt.Sprintf("%q", name)
 		}
 	}

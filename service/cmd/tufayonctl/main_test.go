@@ -124,6 +124,26 @@ func TestUnmounted(t *testing.T) {
 	says(t, address, "delete|v|--wait", 0, "no")
 }
 
+// What a driver says in several lines, or to a terminal, stands in the one line of its volume or event.
+func TestLines(t *testing.T) {
+	carrier := &hosttest.Carrier{Answer: func(_ context.Context, call frames.Call, _ time.Time) (frames.Reply, error, bool) {
+		return frames.Reply{}, errors.New("mount failed:\nOutput:\tno device\x1b[2J"), call.Kind() == frames.NodeStageVolumeKind
+	}}
+	address := serve(t, carrier)
+	says(t, address, "create|v|--block|--wait", 0, "yes")
+	says(t, address, "use|v|n1|/a|--block|--wait", 1, "it was given up: node:n1: mount failed: Output: no device [2J\n")
+	says(t, address, "create|w\n|--block|--wait", 0, `"w\n" `)
+	time.Sleep(200 * time.Millisecond) // the history comes behind the answers
+	for line, wants := range map[string]int{"list": 3, "get|v": 2, "history|v|--most|3": 4} {
+		var output bytes.Buffer
+		run(context.Background(), append([]string{"--address", address}, strings.Split(line, "|")...), &output, &output)
+		text := output.String()
+		if strings.Count(text, "\n") != wants || strings.ContainsAny(text, "\t\x1b") {
+			t.Errorf("%s: %q", line, text)
+		}
+	}
+}
+
 // full is standard output where nothing can be written.
 type full struct{}
 

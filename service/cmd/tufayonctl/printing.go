@@ -8,6 +8,7 @@ import (
 	"strings"
 	"text/tabwriter"
 	"time"
+	"unicode"
 
 	"github.com/golang/protobuf/jsonpb"
 	"github.com/golang/protobuf/proto"
@@ -43,10 +44,10 @@ func (ctl *ctl) answered(ctx context.Context, client wire.OrchestratorClient, na
 		return err
 	}
 	if why := unmounted(volume, node); why != "" {
-		return fmt.Errorf("%s: %w at %s: %s", name, errUnmounted, node, why)
+		return fmt.Errorf("%s: %w at %s: %s", quoted(name), errUnmounted, node, lined(why))
 	}
 	if ctl.waits && !volume.Reached {
-		return fmt.Errorf("%s: %w: %s", name, errUndone, volume.Trouble)
+		return fmt.Errorf("%s: %w: %s", quoted(name), errUndone, lined(volume.Trouble))
 	}
 	return nil
 }
@@ -80,12 +81,22 @@ func (ctl *ctl) follow(ctx context.Context, client wire.OrchestratorClient, name
 				continue
 			}
 			if now := goingOn(event.GetVolume()); now != last {
-				fmt.Fprintf(ctl.errors, "%s: %s\n", name, now)
+				fmt.Fprintf(ctl.errors, "%s: %s\n", quoted(name), now)
 				last = now
 			}
 		}
 	}()
 	return func() { cancel(); <-ended }
+}
+
+// lined has a text stand in a line: a driver's words have several, and what a terminal would take for a command of its own.
+func lined(text string) string {
+	return strings.Map(func(it rune) rune {
+		if unicode.IsControl(it) {
+			return ' '
+		}
+		return it
+	}, text)
 }
 
 // goingOn is what is going on with a volume, in a line.
@@ -100,7 +111,7 @@ func goingOn(volume *wire.Volume) string {
 	if volume.Trouble != "" {
 		text += " (" + volume.Trouble + ")"
 	}
-	return text
+	return lined(text)
 }
 
 func (ctl *ctl) table(head string, rows func(to io.Writer)) {
@@ -128,7 +139,7 @@ func (ctl *ctl) volumes(volumes []*wire.Volume) {
 			if it.WantedSince != 0 {
 				since = time.UnixMilli(it.WantedSince).Format(time.RFC3339)
 			}
-			fmt.Fprintf(to, "%s\t%s\t%s\t%s\t%s\t%s\n", it.Name, id, known(it.Exists), wanted, since, places(it.At))
+			fmt.Fprintf(to, "%s\t%s\t%s\t%s\t%s\t%s\n", quoted(it.Name), id, known(it.Exists), wanted, since, places(it.At))
 		}
 	})
 }
@@ -157,7 +168,7 @@ func places(all []*wire.At) string {
 	if len(texts) == 0 {
 		return "-"
 	}
-	return strings.Join(texts, " ")
+	return lined(strings.Join(texts, " "))
 }
 
 func (ctl *ctl) plugins(response *wire.NodesResponse) {
@@ -167,7 +178,7 @@ func (ctl *ctl) plugins(response *wire.NodesResponse) {
 			if it.Id != "" {
 				name = "node:" + it.Id
 			}
-			trouble := it.Trouble
+			trouble := lined(it.Trouble)
 			if trouble == "" {
 				trouble = "-"
 			}
@@ -214,9 +225,9 @@ func (ctl *ctl) event(event *wire.Event) {
 		if text = goingOn(it.Volume); it.Volume.Goal == "" {
 			text = "at rest, exists " + known(it.Volume.Exists) + ", at " + places(it.Volume.At)
 		}
-		text = it.Volume.Name + ": " + text
+		text = quoted(it.Volume.Name) + ": " + text
 	case *wire.Event_Forgotten:
-		text = it.Forgotten + ": the name is free"
+		text = quoted(it.Forgotten) + ": the name is free"
 	case *wire.Event_Lost:
 		text = "node " + it.Lost + " is lost"
 	}
