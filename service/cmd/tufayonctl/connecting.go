@@ -38,6 +38,9 @@ const leading = `{"loadBalancingConfig":[{"round_robin":{}}],"healthCheckConfig"
 // that leads, which is waited for; of one that doesn't lead it is that which it says.
 func (it *connecting) client(ctx context.Context) (wire.OrchestratorClient, context.Context, func(), error) {
 	following := &following{known: map[string]*grpc.ClientConn{}, dial: func(address string) (*grpc.ClientConn, error) { return it.dial(address) }}
+	if strings.Contains(it.address, ",") {
+		following.several = it.address
+	}
 	connection, err := it.dial(it.address, grpc.WithUnaryInterceptor(following.unary), grpc.WithStreamInterceptor(following.stream))
 	if err != nil {
 		return nil, nil, nil, err
@@ -62,7 +65,7 @@ func (it *connecting) dial(address string, more ...grpc.DialOption) (*grpc.Clien
 		options = append(options, grpc.WithKeepaliveParams(keepalive.ClientParameters{Time: 10 * time.Second, Timeout: 5 * time.Second}))
 	}
 	if len(addresses) > 1 {
-		options = append(options, grpc.WithDefaultServiceConfig(leading), grpc.WithDefaultCallOptions(grpc.WaitForReady(true)))
+		options = append(options, grpc.WithDefaultServiceConfig(leading))
 	}
 	connection, err := grpc.Dial(target, options...)
 	if err != nil {

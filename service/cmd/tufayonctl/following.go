@@ -22,7 +22,8 @@ const again = 200 * time.Millisecond
 
 // following has calls made at the service that leads, where the one that was asked says that it doesn't. Then nothing was done.
 type following struct {
-	dial func(address string) (*grpc.ClientConn, error)
+	several string // the addresses, if there are several
+	dial    func(address string) (*grpc.ClientConn, error)
 
 	mutex sync.Mutex
 	known map[string]*grpc.ClientConn // by their addresses
@@ -35,6 +36,25 @@ func leader(err error, trailer metadata.MD) (address string, isRefusal bool) {
 		return "", false
 	}
 	return said[0], true
+}
+
+// leads waits until one of several services leads, as their health says.
+func (it *following) leads(ctx context.Context, first *grpc.ClientConn) error {
+	if it.several == "" {
+		return nil
+	}
+	within, cancel := context.WithTimeout(ctx, patience)
+	defer cancel()
+	for state := first.GetState(); state != connectivity.Ready; state = first.GetState() {
+		switch {
+		case first.WaitForStateChange(within, state):
+		case ctx.Err() != nil:
+			return status.FromContextError(ctx.Err()).Err()
+		default:
+			return status.Errorf(codes.Unavailable, "none of %s leads", it.several)
+		}
+	}
+	return nil
 }
 
 // next gives the connection at which a refused call is made again. Where it isn't known which service leads, or the one of which that is said isn't reached,
@@ -116,6 +136,9 @@ func (it *following) close() {
 func (it *following) unary(
 	ctx context.Context, method string, request, response any, first *grpc.ClientConn, invoke grpc.UnaryInvoker, options ...grpc.CallOption,
 ) error {
+	if err := it.leads(ctx, first); err != nil {
+		return err
+	}
 	until := time.Now().Add(patience)
 	at := first
 	for {
@@ -141,6 +164,9 @@ func (it *following) unary(
 func (it *following) stream(
 	ctx context.Context, description *grpc.StreamDesc, first *grpc.ClientConn, method string, begin grpc.Streamer, options ...grpc.CallOption,
 ) (grpc.ClientStream, error) {
+	if err := it.leads(ctx, first); err != nil {
+		return nil, err
+	}
 	made, err := begin(ctx, description, first, method, options...)
 	if err != nil {
 		return nil, err

@@ -230,8 +230,10 @@ func TestNobodyLeads(t *testing.T) {
 	_, server := api.New(plugins{}, nil, roles, secure.Local{May: roles.MayConnect}, zap.NewNop())
 	go server.Serve(listener)
 	defer server.Stop()
+	waiting, nobody := "unix://"+listener.Addr().String(), "unix://"+filepath.Join(t.TempDir(), "nobody")
 	for _, line := range []string{"list", "watch"} {
-		says(t, "unix://"+listener.Addr().String(), line+"|--timeout|2s", 3, "this service doesn't lead\n")
+		says(t, waiting, line+"|--timeout|2s", 3, "this service doesn't lead\n")
+		says(t, waiting+","+nobody, line+"|--timeout|2s", 3, "Unavailable: none of "+waiting+","+nobody+" leads\n")
 	}
 }
 
