@@ -81,7 +81,7 @@ func (host *Host) openPlugin(ctx context.Context, epoch uint64, name string, ope
 			return
 		}
 		log.Warn("it doesn't begin the session, and isn't used", zap.Error(err))
-		host.board.note(name, err.Error())
+		host.board.note(epoch, name, err.Error())
 		if wait > host.times.MostRetry {
 			wait = host.times.MostRetry
 		}
@@ -108,7 +108,7 @@ func (it *begunAt) ask(host *Host, work *work) error {
 	host.core.peers.begins(it.plugin, host.core.session)
 	gate := host.gates[it.plugin]
 	work.after = append(work.after, func() {
-		host.board.note(it.plugin, "")
+		host.board.note(it.epoch, it.plugin, "")
 		close(gate)
 	})
 	return nil

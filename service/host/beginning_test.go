@@ -88,3 +88,26 @@ func TestGoneAtBeginning(t *testing.T) {
 		t.Errorf("once it is there: %+v, %v", answer, err)
 	}
 }
+
+// Why a plugin didn't begin an earlier session isn't told of the present one, for which it isn't reached.
+func TestTroubleOfBefore(t *testing.T) {
+	node := carrying.NodeName("n1")
+	carrier := &hosttest.Carrier{Opens: func(ctx context.Context, plugin string, opening numbers.Opening) error {
+		switch {
+		case plugin != node:
+			return nil
+		case opening.Session == 1:
+			return carrying.ErrEarlier
+		}
+		<-ctx.Done()
+		return ctx.Err()
+	}}
+	made := open(t, hosttest.NewStore(), carrier, quick, "n1")
+	soon(t, "it is told", func() bool { return made.Trouble(node) == carrying.ErrEarlier.Error() })
+	if _, err := made.Begin(ctx, nil, "a test"); err != nil {
+		t.Fatal(err)
+	}
+	if trouble := made.Trouble(node); trouble != "" {
+		t.Errorf("in the next session: %s", trouble)
+	}
+}

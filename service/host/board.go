@@ -28,6 +28,7 @@ type board struct {
 	volumes  map[string]posted
 	freed    []freed           // names that became free last
 	unknown  uint64            // up to this count of events some that became free aren't known any more
+	epoch    uint64            // of the session
 	troubles map[string]string // why plugins haven't begun the session, by their names
 	heard    map[string]frames.Number
 	watchers map[*Watching]bool
@@ -56,10 +57,13 @@ func newBoard() *board {
 	}
 }
 
-// note notes why a plugin hasn't begun the session, or with no text that it has.
-func (board *board) note(plugin, why string) {
+// note notes why a plugin hasn't begun a session, or with no text that it has. What is told of an earlier one counts no more.
+func (board *board) note(epoch uint64, plugin, why string) {
 	board.mutex.Lock()
 	defer board.mutex.Unlock()
+	if epoch != board.epoch {
+		return
+	}
 	if why == "" {
 		delete(board.troubles, plugin)
 		return
@@ -95,6 +99,9 @@ func (host *Host) publish(work *work) {
 	board.mutex.Lock()
 	defer board.mutex.Unlock()
 	board.session, board.nodes = host.core.session, host.core.nodes
+	if work.begins {
+		board.epoch, board.troubles = host.epoch, map[string]string{}
+	}
 	for name, it := range host.core.peers.of {
 		board.heard[name] = it.heard
 	}
