@@ -15,10 +15,13 @@ import (
 	"testing"
 	"time"
 
+	"go.uber.org/zap"
 	"google.golang.org/grpc/credentials"
 
 	"tufayon/service/carrying"
+	"tufayon/service/history"
 	"tufayon/service/host"
+	"tufayon/service/records"
 	"tufayon/service/secure"
 	"tufayon/service/secure/securetest"
 )
@@ -109,6 +112,21 @@ func TestLeader(t *testing.T) {
 				break
 			}
 		}
+	}
+}
+
+// A picture is of one volume, and never of all that is kept.
+func TestPictureOfAll(t *testing.T) {
+	page, at := waiting(t, Options{}, first)
+	page.source.Draws = "/bin/false"
+	var err error
+	if page.source.History, err = history.Open("", history.Usual, zap.NewNop()); err != nil {
+		t.Fatal(err)
+	}
+	page.source.History.Happened([]host.Happening{{What: host.TimedOut, Name: "v", Row: &records.Row{Wanted: records.Wanted{Name: "v"}}}})
+	answer, err := http.ReadResponse(bufio.NewReader(at.ask(t, "/picture")), nil)
+	if err != nil || answer.StatusCode != 400 {
+		t.Errorf("%v, %v", answer, err)
 	}
 }
 

@@ -18,9 +18,8 @@ func (page *Page) picture(to http.ResponseWriter, request *http.Request) {
 		http.Error(to, "no program draws pictures here", http.StatusNotFound)
 		return
 	}
-	schedule := page.source.History.Schedule(name, mostEvents)
-	if len(schedule.Events) == 0 {
-		http.Error(to, "nothing is known of it", http.StatusNotFound)
+	if name == "" { // of all volumes it would be of all that is kept
+		http.Error(to, "no volume is named", http.StatusBadRequest)
 		return
 	}
 	ctx, cancel := context.WithTimeout(request.Context(), drawWithin)
@@ -30,6 +29,11 @@ func (page *Page) picture(to http.ResponseWriter, request *http.Request) {
 		defer func() { <-page.drawing }()
 	case <-ctx.Done():
 		http.Error(to, "too many pictures are drawn", http.StatusServiceUnavailable)
+		return
+	}
+	schedule := page.source.History.Schedule(name, mostEvents)
+	if len(schedule.Events) == 0 {
+		http.Error(to, "nothing is known of it", http.StatusNotFound)
 		return
 	}
 	drawn, err := schedule.Draw(ctx, page.source.Draws)
