@@ -15,7 +15,7 @@ import (
 )
 
 // A file has the base in its first line, and an entry in each one behind it. It is written anew once it has four times as many entries as are
-// kept, or twice as many bytes. Nothing waits for the disk: a machine that dies loses the last ones.
+// kept, or twice as many bytes, and only then it waits for the disk: a machine that dies loses the last ones.
 type file struct {
 	path    string
 	to      *os.File
@@ -34,6 +34,9 @@ type head struct {
 }
 
 const fileVersion = 1
+
+// beginning is how each file begins.
+const beginning = `{"history":`
 
 // errOther says that a file is no history, or of another version.
 var errOther = errors.New("it is no history of this version")
@@ -62,6 +65,10 @@ func (made *History) read(content []byte) error {
 	lines := bytes.SplitAfter(content, []byte("\n"))
 	var first head
 	if json.Unmarshal(lines[0], &first) != nil || first.Version != fileVersion {
+		if len(lines) == 1 && bytes.HasPrefix(content, []byte(beginning)) { // its machine died
+			made.log.Warn("the history can't be read, since its first line wasn't finished")
+			return nil
+		}
 		return errOther
 	}
 	made.base, made.before = first.Base, first.Before
@@ -131,6 +138,9 @@ func (made *History) rewrite() error {
 		buffer.Write(lines)
 	}
 	if err = buffer.Flush(); err == nil {
+		err = anew.Sync() // else a machine that dies soon may have neither the one before nor this one
+	}
+	if err == nil {
 		err = os.Rename(it.path+".new", it.path)
 	}
 	if err != nil {

@@ -288,4 +288,12 @@ func TestFile(t *testing.T) {
 		t.Errorf("%d events are kept", kept)
 	}
 	again.Close()
+	os.WriteFile(made.file, content[:20], 0o600) // as a machine that died left it
+	if again, err = Open(made.file, 10, zap.NewNop()); err != nil {
+		t.Fatal(err)
+	}
+	if kept, _ := again.Count(); kept != 0 {
+		t.Errorf("%d events are kept of an unfinished line", kept)
+	}
+	again.Close()
 }
