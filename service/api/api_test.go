@@ -243,15 +243,23 @@ func TestWaits(t *testing.T) {
 	}
 }
 
-// A service whose store is another's by now answers no reader, whatever it has in memory: it ends. One that doesn't know is unsure.
+// A service whose store is another's by now answers no reader, whatever it has in memory, and no command that changes nothing: it ends. One that doesn't
+// know is unsure.
 func TestLate(t *testing.T) {
 	kept := hosttest.NewStore()
 	carrier := &hosttest.Carrier{Opens: func(ctx context.Context, _ string, _ numbers.Opening) error { // so that nothing is committed meanwhile
 		<-ctx.Done()
 		return ctx.Err()
 	}}
-	connection, made, _ := serveLocal(t, kept, carrier, 1, api.Reads)
+	connection, made, _ := serveLocal(t, kept, carrier, 1, api.Operates)
 	client := wire.NewOrchestratorClient(connection)
+	create := func() error {
+		_, err := client.Create(ctx, &wire.CreateRequest{Name: "v", Capabilities: []*wire.Capability{block}})
+		return err
+	}
+	if err := create(); err != nil {
+		t.Fatal(err)
+	}
 	watch := func() error {
 		stream, err := client.Watch(ctx, &wire.WatchRequest{Current: true})
 		if err == nil {
@@ -263,6 +271,9 @@ func TestLate(t *testing.T) {
 	_, err := client.Get(ctx, &wire.GetRequest{Name: "v"})
 	wants(t, "unsure", err, codes.Unavailable, "it isn't known whether this service leads: a commit's outcome isn't known")
 	wants(t, "a watcher", watch(), codes.Unavailable, "it isn't known whether this service leads: a commit's outcome isn't known")
+	wants(t, "a name that is used", create(), codes.Unavailable, "it isn't known whether this service leads: a commit's outcome isn't known")
+	_, err = client.Get(ctx, &wire.GetRequest{Name: "w", Wait: wire.Wait_AT_REST})
+	wants(t, "no volume", err, codes.Unavailable, "it isn't known whether this service leads: a commit's outcome isn't known")
 	kept.Fail(store.ErrLost)
 	_, err = client.List(ctx, &wire.ListRequest{})
 	wants(t, "late", err, codes.Unavailable, host.ErrEnded.Error())

@@ -3,6 +3,7 @@ package api
 
 import (
 	"context"
+	"errors"
 	"sync"
 	"time"
 
@@ -112,6 +113,20 @@ func current(ctx context.Context, leads *host.Host) error {
 	return nil
 }
 
+// answered is the status of what a host answered. Where nothing was committed for that, since it was met or refused, this process has to lead still.
+func answered(ctx context.Context, leads *host.Host, isMet bool, err error) error {
+	var refusal host.Refusal
+	if isMet || errors.As(err, &refusal) {
+		if unsure := current(ctx, leads); unsure != nil {
+			return unsure
+		}
+	}
+	if err != nil {
+		return statusOf(err)
+	}
+	return nil
+}
+
 // do has a command carried out.
 func (server *Server) do(ctx context.Context, command host.Command) (*wire.Volume, error) {
 	leads, err := server.host(ctx)
@@ -120,8 +135,8 @@ func (server *Server) do(ctx context.Context, command host.Command) (*wire.Volum
 	}
 	command.Trace = tracing.From(ctx)
 	answer, err := leads.Do(ctx, command)
-	if err != nil {
-		return nil, statusOf(err)
+	if err := answered(ctx, leads, answer.Met, err); err != nil {
+		return nil, err
 	}
 	volume := server.volumeOf(answer.Volume)
 	volume.Met, volume.Reached = answer.Met, answer.Reached && (command.Kind != host.Use || unmountedAt(volume, command.Node) == "")
@@ -224,8 +239,8 @@ func (server *Server) Get(ctx context.Context, request *wire.GetRequest) (*wire.
 	}
 	if request.Wait == wire.Wait_AT_REST {
 		answer, err := leads.AtRest(ctx, request.Name)
-		if err != nil {
-			return nil, statusOf(err)
+		if err := answered(ctx, leads, false, err); err != nil {
+			return nil, err
 		}
 		return server.volumeOf(answer.Volume), current(ctx, leads)
 	}
