@@ -312,6 +312,29 @@ func TestPages(t *testing.T) {
 	}
 }
 
+// Who has lost its role is told nothing more, by a stream that it has either.
+func TestWatchWithoutRole(t *testing.T) {
+	connection, made, roles := local(t, api.Operates)
+	client := wire.NewOrchestratorClient(connection)
+	if _, err := client.Create(ctx, &wire.CreateRequest{Name: "v", Capabilities: []*wire.Capability{block}, Wait: wire.Wait_AT_REST}); err != nil {
+		t.Fatal(err)
+	}
+	stream, err := client.Watch(ctx, &wire.WatchRequest{})
+	if err == nil {
+		_, err = stream.Header()
+	}
+	if err != nil {
+		t.Fatal(err)
+	}
+	roles.Set(nil, nil)
+	if _, err := made.Begin(ctx, nil, "a test"); err != nil {
+		t.Fatal(err)
+	}
+	if event, err := stream.Recv(); status.Code(err) != codes.PermissionDenied {
+		t.Errorf("it is told %v, %v", event, err)
+	}
+}
+
 // A watcher gets a volume as it is, and then what becomes of it.
 func TestWatch(t *testing.T) {
 	connection, made, _ := local(t, api.Operates)

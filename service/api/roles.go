@@ -117,10 +117,27 @@ func (guard *guard) stream(server any, stream grpc.ServerStream, info *grpc.Stre
 	began := time.Now()
 	who, err := guard.admit(stream.Context(), info.FullMethod)
 	if err == nil {
-		err = guard.safely(info.FullMethod, func() error { return handle(server, stream) })
+		its := &judged{stream, func() error {
+			_, err := guard.admit(stream.Context(), info.FullMethod)
+			return err
+		}}
+		err = guard.safely(info.FullMethod, func() error { return handle(server, its) })
 	}
 	guard.tell(who, info.FullMethod, nil, began, err)
 	return err
+}
+
+// judged is a stream that tells nothing more to who has lost its role.
+type judged struct {
+	grpc.ServerStream
+	admit func() error
+}
+
+func (it *judged) SendMsg(message any) error {
+	if err := it.admit(); err != nil {
+		return err
+	}
+	return it.ServerStream.SendMsg(message)
 }
 
 // safely has a call handled. A fault of the code ends that call, and not the service.
