@@ -166,22 +166,29 @@ func (ctl *ctl) get() *cobra.Command {
 		}))
 }
 
+// listed are the volumes of all pages.
+func listed(ctx context.Context, client wire.OrchestratorClient, request *wire.ListRequest) (all []*wire.Volume, err error) {
+	for {
+		page, err := client.List(ctx, request)
+		if err != nil {
+			return all, err
+		}
+		all = append(all, page.Volumes...)
+		if page.Next == "" {
+			return all, nil
+		}
+		request.After = page.Next
+	}
+}
+
 func (ctl *ctl) list() *cobra.Command {
 	request := &wire.ListRequest{}
 	command := ctl.asked("list", "lists volumes", 0, func(ctx context.Context, client wire.OrchestratorClient, _ []string) error {
-		all := &wire.ListResponse{}
-		for {
-			page, err := client.List(ctx, request)
-			if err != nil {
-				return err
-			}
-			all.Volumes = append(all.Volumes, page.Volumes...)
-			if page.Next == "" {
-				break
-			}
-			request.After = page.Next
+		all, err := listed(ctx, client, request)
+		if err != nil {
+			return err
 		}
-		return ctl.print(all, func() { ctl.volumes(all.Volumes) })
+		return ctl.print(&wire.ListResponse{Volumes: all}, func() { ctl.volumes(all) })
 	})
 	command.Flags().StringVar(&request.Node, "node", "", "only those that may be attached to this node, or are to be")
 	command.Flags().BoolVar(&request.Wanted, "wanted", false, "only those of which something is wanted")
@@ -228,6 +235,15 @@ func (ctl *ctl) restart() *cobra.Command {
 		})
 }
 
+// namesOf are those of all volumes, as far as the service tells them.
+func namesOf(ctx context.Context, client wire.OrchestratorClient) (names []string) {
+	all, _ := listed(ctx, client, &wire.ListRequest{}) // a shell has nobody to tell
+	for _, it := range all {
+		names = append(names, it.Name)
+	}
+	return names
+}
+
 // complete gives the names of volumes, nodes and targets that may stand at a place, as far as the service tells them.
 func (ctl *ctl) complete(command *cobra.Command, words []string, _ string) ([]string, cobra.ShellCompDirective) {
 	places := strings.Fields(command.Use)[1:]
@@ -245,13 +261,7 @@ func (ctl *ctl) complete(command *cobra.Command, words []string, _ string) ([]st
 		if command.Name() == "create" {
 			break
 		}
-		page, err := client.List(ctx, &wire.ListRequest{})
-		if err != nil {
-			break
-		}
-		for _, it := range page.Volumes {
-			names = append(names, it.Name)
-		}
+		names = namesOf(ctx, client)
 	case "NODE":
 		response, err := client.Nodes(ctx, &wire.NodesRequest{})
 		if err != nil {

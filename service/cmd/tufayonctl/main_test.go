@@ -6,6 +6,8 @@ import (
 	"errors"
 	"os"
 	"path/filepath"
+	"reflect"
+	"sort"
 	"strings"
 	"sync/atomic"
 	"syscall"
@@ -13,9 +15,11 @@ import (
 	"time"
 
 	"go.uber.org/zap"
+	"google.golang.org/grpc"
 
 	"tufayon/service/api"
 	"tufayon/service/api/terms"
+	"tufayon/service/api/wire"
 	"tufayon/service/carrying"
 	"tufayon/service/frames"
 	"tufayon/service/history"
@@ -110,6 +114,29 @@ func TestWords(t *testing.T) {
 	says(t, address, "lose|n1", 2, `--promise "off for good, and its store never comes back"`)
 	says(t, address, "lose|n1|--promise|"+terms.Promise, 0, "n1 is lost", "session 3")
 	says(t, address, "watch|--current|--timeout|50ms", 3, "DeadlineExceeded")
+}
+
+// pages is a service that lists a volume on each page.
+type pages struct {
+	wire.OrchestratorClient
+	names []string
+}
+
+func (it pages) List(_ context.Context, request *wire.ListRequest, _ ...grpc.CallOption) (*wire.ListResponse, error) {
+	at := sort.SearchStrings(it.names, request.After+"\x00")
+	response := &wire.ListResponse{Volumes: []*wire.Volume{{Name: it.names[at]}}}
+	if at+1 < len(it.names) {
+		response.Next = it.names[at]
+	}
+	return response, nil
+}
+
+// A shell is told the names of all volumes, on however many pages they are.
+func TestNames(t *testing.T) {
+	want := []string{"a", "b", "c"}
+	if names := namesOf(context.Background(), pages{names: want}); !reflect.DeepEqual(names, want) {
+		t.Errorf("it is told %v", names)
+	}
 }
 
 // A use of what is so already, at a node that hasn't mounted it, says so, and ends otherwise; what else is asked goes on.
