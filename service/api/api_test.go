@@ -312,6 +312,32 @@ func TestPages(t *testing.T) {
 	}
 }
 
+// So many watch at once and no more, until one of them ends.
+func TestManyWatch(t *testing.T) {
+	connection, made, _ := local(t, api.Reads)
+	client := wire.NewOrchestratorClient(connection)
+	var all []*host.Watching
+	for at := 0; at < 1024; at++ {
+		all = append(all, made.Watch(false, ""))
+	}
+	watch := func() error {
+		ctx, cancel := context.WithTimeout(ctx, 10*time.Second)
+		defer cancel()
+		stream, err := client.Watch(ctx, &wire.WatchRequest{})
+		if err == nil {
+			_, err = stream.Header()
+		}
+		if err == nil && len(all) == 1024 {
+			_, err = stream.Recv()
+		}
+		return err
+	}
+	wants(t, "one more", watch(), codes.ResourceExhausted, "too many watch")
+	all[0].End()
+	all = all[1:]
+	wants(t, "one more later", watch(), codes.OK, "")
+}
+
 // Who has lost its role is told nothing more, by a stream that it has either.
 func TestWatchWithoutRole(t *testing.T) {
 	connection, made, roles := local(t, api.Operates)

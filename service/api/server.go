@@ -32,6 +32,7 @@ import (
 const (
 	mostListed = 1000    // volumes that a page of a list has at most
 	mostBytes  = 2 << 20 // of a page with several volumes: half of what clients of gRPC take
+	mostWatch  = 1024    // streams of Watch at once: each is told of each event
 )
 
 // Plugins says how it stands with the plugins: carrying.Carrier is one.
@@ -297,6 +298,9 @@ func (server *Server) Watch(request *wire.WatchRequest, stream wire.Orchestrator
 	leads, err := server.host(ctx)
 	if err != nil {
 		return err
+	}
+	if leads.Counts().Watchers >= mostWatch {
+		return status.Error(codes.ResourceExhausted, "too many watch")
 	}
 	watching := leads.Watch(request.Current, request.Name)
 	defer watching.End()
