@@ -3,6 +3,7 @@ package web
 import (
 	"context"
 	"encoding/json"
+	"fmt"
 	"net/http"
 	"reflect"
 	"sort"
@@ -62,12 +63,16 @@ type begin struct {
 
 func (page *Page) events(to http.ResponseWriter, request *http.Request) {
 	flusher, isOne := to.(http.Flusher)
-	if !isOne || request.Method != http.MethodGet || !page.enter() {
-		http.Error(to, "too many pages follow", http.StatusServiceUnavailable)
+	if !isOne || request.Method != http.MethodGet {
+		http.Error(to, "it can't be followed", http.StatusMethodNotAllowed)
+		return
+	}
+	to.Header().Set("Content-Type", "text/event-stream")
+	if !page.enter() { // a browser asks once more then, and never after another status
+		fmt.Fprintf(to, "retry: %d\n\n", mostSilent.Milliseconds())
 		return
 	}
 	defer page.leave()
-	to.Header().Set("Content-Type", "text/event-stream")
 	it := &stream{to: to, flusher: flusher, request: request, page: page, source: &page.source}
 	ctx, cancel := context.WithTimeout(request.Context(), streamLife)
 	defer cancel()

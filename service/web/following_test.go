@@ -95,6 +95,26 @@ func TestStuck(t *testing.T) {
 	page.soon(t, 0)
 }
 
+// A page above the limit is told to ask once more, and follows once another one is gone.
+func TestManyPages(t *testing.T) {
+	page, at := waiting(t, Options{}, first)
+	page.stuck = within
+	for at := 0; at < mostStreams; at++ {
+		page.enter()
+	}
+	answer, err := http.ReadResponse(bufio.NewReader(at.ask(t, "/events")), nil)
+	if err != nil {
+		t.Fatal(err)
+	}
+	text, err := io.ReadAll(answer.Body)
+	if err != nil || answer.StatusCode != 200 || answer.Header.Get("Content-Type") != "text/event-stream" || string(text) != "retry: 5000\n\n" {
+		t.Errorf("%s: %q, %v", answer.Status, text, err)
+	}
+	page.leave()
+	at.ask(t, "/events")
+	page.soon(t, mostStreams)
+}
+
 // A page of a process that doesn't lead is told who does, also where another one does later.
 func TestLeader(t *testing.T) {
 	var leads atomic.Value
