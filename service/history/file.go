@@ -7,7 +7,9 @@ import (
 	"errors"
 	"fmt"
 	"os"
+	"path/filepath"
 	"syscall"
+	"time"
 
 	"go.uber.org/zap"
 
@@ -20,10 +22,11 @@ type file struct {
 	path    string
 	to      *os.File
 	lines   int
-	size    int   // of these lines
-	isStale bool  // it has to be written anew
-	fault   error // what the last writing failed by
-	err     error // why it isn't written any more
+	size    int       // of these lines
+	isStale bool      // it has to be written anew
+	fault   error     // what the last writing failed by
+	err     error     // why it isn't written any more
+	failed  time.Time // when that was tried last
 }
 
 // head is the first line.
@@ -54,11 +57,14 @@ func (made *History) open(path string) error {
 	}
 	made.file = &file{path: path, isStale: true}
 	made.save()
-	if err := made.file.err; !errors.Is(err, syscall.ENOSPC) && !errors.Is(err, syscall.EDQUOT) {
+	if err := made.file.err; !isFull(err) {
 		return err
 	}
 	return nil // it goes on in memory, as where the disk gets full later
 }
+
+// isFull says whether something can't be written since the disk is full.
+func isFull(err error) bool { return errors.Is(err, syscall.ENOSPC) || errors.Is(err, syscall.EDQUOT) }
 
 // read reads the lines of a file. The last one, which a process that was killed didn't finish, is left out, and so is all from the first on that is none.
 func (made *History) read(content []byte) error {
@@ -106,21 +112,43 @@ func (it *file) writeOf(last *pack) {
 	}
 }
 
-// save has the file have all. The lock is held. Where the file can't be written, the history goes on in memory.
+// save has the file have all. The lock is held. Where the file can't be written, the history goes on in memory; where the disk is full, until that has room.
 func (made *History) save() {
 	it := made.file
-	if it.err != nil {
+	before := it.err
+	if before != nil && !it.hasRoom(made.size) {
 		return
 	}
-	if it.isStale || it.lines > 4*made.most || it.size > 2*mostBytes {
+	if before != nil || it.isStale || it.lines > 4*made.most || it.size > 2*mostBytes {
 		it.err = made.rewrite()
 	} else {
 		it.writeOf(made.last)
 		it.err = it.fault
 	}
-	if it.err != nil {
+	switch {
+	case it.err != nil && before == nil:
+		it.failed = time.Now()
 		made.log.Error("the history isn't kept any more", zap.Error(it.err))
+	case it.err != nil:
+		it.failed = time.Now()
+	case before != nil:
+		made.log.Info("the history is kept again")
 	}
+}
+
+const (
+	again = time.Minute // until a disk that was full is looked at once more
+	roomy = 4           // times as much as is written has to be free there: others need the last of it more
+)
+
+// hasRoom says whether a disk that was full has room for so many bytes by now.
+func (it *file) hasRoom(size int) bool {
+	if !isFull(it.err) || time.Since(it.failed) < again {
+		return false
+	}
+	var disk syscall.Statfs_t
+	err := syscall.Statfs(filepath.Dir(it.path), &disk)
+	return err == nil && disk.Bavail*uint64(disk.Bsize) > uint64(roomy*(size+1<<20))
 }
 
 // rewrite writes the file anew, in place of what is there.
@@ -151,7 +179,7 @@ func (made *History) rewrite() error {
 	if it.to != nil {
 		it.to.Close()
 	}
-	it.to, it.lines, it.size, it.isStale = anew, made.count, made.size, false
+	it.to, it.lines, it.size, it.isStale, it.fault = anew, made.count, made.size, false, nil
 	made.last.written = len(made.last.lines)
 	return nil
 }

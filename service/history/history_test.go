@@ -297,3 +297,41 @@ func TestFile(t *testing.T) {
 	}
 	again.Close()
 }
+
+// Where the disk gets full the history goes on in memory, and once that has room the file has all again.
+func TestFullDisk(t *testing.T) {
+	path := filepath.Join(t.TempDir(), "history")
+	made, err := Open(path, Usual, zap.NewNop())
+	if err != nil {
+		t.Fatal(err)
+	}
+	happens := func(name string) {
+		made.keep([][]host.Happening{{{What: host.Commanded, Name: name, Command: host.Command{Kind: host.Delete, Name: name}, Refusal: 2}}})
+	}
+	happens("a")
+	made.file.to.Close()
+	if made.file.to, err = os.OpenFile("/dev/full", os.O_WRONLY, 0); err != nil {
+		t.Fatal(err)
+	}
+	happens("b")
+	happens("c")
+	made.file.failed = time.Time{} // long ago
+	happens("d")
+	happens("e")
+	if err := made.Close(); err != nil {
+		t.Error(err)
+	}
+	read, err := Open(path, Usual, zap.NewNop())
+	if err != nil {
+		t.Fatal(err)
+	}
+	defer read.Close()
+	var names string
+	last, _, _ := read.Last("", Usual, 0)
+	for _, entry := range last {
+		names += entry.Name
+	}
+	if names != "abcde" {
+		t.Errorf("the file has %s", names)
+	}
+}
