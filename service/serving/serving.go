@@ -213,7 +213,7 @@ func (core *Core) enter() error {
 	if core.closing {
 		return errEnded
 	}
-	if core.calls == core.config.Calls {
+	if core.calls >= core.config.Calls { // what is done anew counts, whatever the limit
 		return errCalls
 	}
 	core.calls++

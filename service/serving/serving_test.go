@@ -413,6 +413,36 @@ func TestLimit(t *testing.T) {
 	wants(t, core, numbered(1, 3), stage(3), codes.OK)
 }
 
+// What is done anew comes above the limit, since nobody called, and lets nobody else in above it.
+func TestLimitAnew(t *testing.T) {
+	slow := newDeed()
+	core, err := Open(context.Background(), Config{Make: making(10, &faults{}), Store: newMemory(), Numbering: byMetadata, Calls: 1})
+	if err != nil {
+		t.Fatal(err)
+	}
+	t.Cleanup(core.Close)
+	first := carry(core, numbered(1, 1), stage(1).by(slow))
+	<-slow.begun
+	begun, goesOn, anew := make(chan struct{}), make(chan struct{}), make(chan error, 1)
+	go func() {
+		_, err := core.Anew(2, func(Known, func(Known, Request) error) error {
+			close(begun)
+			<-goesOn
+			return nil
+		})
+		anew <- err
+	}()
+	<-begun
+	wants(t, core, numbered(1, 3), stage(3), codes.ResourceExhausted)
+	close(goesOn)
+	close(slow.goOn)
+	wantsError(t, first, codes.OK)
+	if err := <-anew; err != nil {
+		t.Errorf("anew: %v", err)
+	}
+	wants(t, core, numbered(1, 3), stage(3), codes.OK)
+}
+
 // An end waits for what is under way, for a while, and then ends it: no reply is given, and the store has what may be there.
 func TestEnd(t *testing.T) {
 	kept, slow := newMemory(), newDeed()
