@@ -75,6 +75,17 @@ func TestRefused(t *testing.T) {
 	box.attached(id, long)
 }
 
+// A path that an upstream may take for one of the eight calls, and that isn't written as gRPC writes it, doesn't pass by the plugin.
+func TestOddPaths(t *testing.T) {
+	box, ctx := newBox(t, upstream.Options{}).start(), soon(t)
+	id := box.made(ctx, "v")
+	box.does(ctx, attachCall, attaches(id, "n1", writer))
+	for _, method := range []string{attachCall[1:], attachCall + "?", attachCall + "#", "/csi.v1.Controller/Controller%50ublishVolume", "csi.v0.Controller/CreateVolume"} {
+		box.refuses(ctx, codes.Unimplemented, "no path of a call, /SERVICE/METHOD: one of the eight would pass by the plugin", method, attaches(id, "n2", writer))
+	}
+	box.attached(id, "n1")
+}
+
 // An upstream's error is given back as it is, with its details; the ledger then has what may be there, and the repeat asks again.
 func TestFailed(t *testing.T) {
 	box, ctx := newBox(t, upstream.Options{}).start(), soon(t)

@@ -109,6 +109,14 @@ func (proxy *Proxy) Server(backend *driver.Backend, limits *limiting.Limits, pro
 	return grpc.NewServer(append(options, more...)...)
 }
 
+// errPath refuses a path that an upstream may take for another one than it seems to be here.
+var errPath = status.Error(codes.Unimplemented, "no path of a call, /SERVICE/METHOD: one of the eight would pass by the plugin")
+
+// isPath says whether a path is that of a call as gRPC writes it. Some servers take one without its first slash for the same call, or read it as a URI.
+func isPath(method string) bool {
+	return strings.HasPrefix(method, "/") && !strings.ContainsAny(method, "?#%;")
+}
+
 // handle answers a call of any method. A panic ends the call alone; what it panicked of isn't told, since it may show what is private.
 func (server *server) handle(_ any, stream grpc.ServerStream) (err error) {
 	method, _ := grpc.MethodFromServerStream(stream)
@@ -119,6 +127,8 @@ func (server *server) handle(_ any, stream grpc.ServerStream) (err error) {
 		}
 	}()
 	switch {
+	case !isPath(method):
+		return errPath
 	case isNumbered(method):
 		return server.guard(method, stream)
 	case strings.HasPrefix(method, "/csi.v0."):
