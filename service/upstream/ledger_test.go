@@ -9,11 +9,13 @@ import (
 	"testing"
 
 	"github.com/golang/protobuf/proto"
+	"google.golang.org/grpc"
 	"google.golang.org/grpc/codes"
 
 	"tufayon/service/identities"
 	"tufayon/service/store"
 	"tufayon/service/upstream"
+	"tufayon/service/upstream/upstreamtest"
 	"tufayon/service/wire"
 )
 
@@ -283,8 +285,40 @@ func TestOthers(t *testing.T) {
 	}
 }
 
-// full is a ledger of 4,096 volumes, by docs/RECORDS.md: each made by call N of session 1, in mount ext4 and mode 1. Of the first alone there is an id.
-func full(t *testing.T, path string) {
+// A list of the ledger's comes in pages that clients take, however long the ids are, each volume once.
+func TestLongList(t *testing.T) {
+	box, ctx := newBox(t, upstream.Options{}), soon(t)
+	var ids []store.Text
+	for volume := uint64(2); volume <= 1200; volume++ {
+		ids = append(ids, identities.Put(volume, fmt.Sprint(volume, strings.Repeat("x", 4000))))
+	}
+	full(t, box.folder+"/ledger.db", ids...)
+	box.start()
+	found, request, usual := map[string]bool{}, &wire.ListVolumesRequest{}, grpc.MaxCallRecvMsgSize(4<<20)
+	for {
+		var listed wire.ListVolumesResponse
+		_, response, err := upstreamtest.Call(ctx, box.client, "/csi.v1.Controller/ListVolumes", request, "", usual)
+		if err == nil {
+			err = proto.Unmarshal(response.Message, &listed)
+		}
+		if err != nil {
+			t.Fatal(err)
+		}
+		for _, it := range listed.GetEntries() {
+			found[it.GetVolume().GetVolumeId()] = true
+		}
+		if request.StartingToken = listed.GetNextToken(); request.StartingToken == "" {
+			break
+		}
+	}
+	if len(found) != 1200 {
+		t.Errorf("there are %d volumes", len(found))
+	}
+}
+
+// full is a ledger of 4,096 volumes, by docs/RECORDS.md: each made by call N of session 1, in mount ext4 and mode 1. Of the first there is an id, and of
+// others these.
+func full(t *testing.T, path string, ids ...store.Text) {
 	t.Helper()
 	kept, err := store.OpenKeeper(context.Background(), path)
 	if err != nil {
@@ -299,7 +333,7 @@ func full(t *testing.T, path string) {
 		row = append(number(number(row, 1), id), 0x81, 0)
 		changes = append(changes, store.Change{Key: id, Value: append(number(row, id), 0)})
 	}
-	if err := kept.CommitBoth(context.Background(), changes, []store.Text{identities.Mark(), identities.Put(1, "kept")}, nil); err != nil {
+	if err := kept.CommitBoth(context.Background(), changes, append(ids, identities.Mark(), identities.Put(1, "kept")), nil); err != nil {
 		t.Fatal(err)
 	}
 	kept.Close()

@@ -23,6 +23,9 @@ const (
 	probeCall        = "/csi.v1.Identity/Probe"
 )
 
+// mostPage is how many bytes a page of the ledger's with several volumes has: half of what clients of gRPC take.
+const mostPage = 2 << 20
+
 // What the ledger can tell where an upstream can't.
 var told = []wire.ControllerServiceCapability_RPC_Type{
 	wire.ControllerServiceCapability_RPC_LIST_VOLUMES, wire.ControllerServiceCapability_RPC_LIST_VOLUMES_PUBLISHED_NODES,
@@ -159,7 +162,8 @@ func (server *server) list(ctx context.Context, raw []byte) (passing.Response, e
 	return passing.Response{Message: message}, err
 }
 
-// listLedger lists what the ledger has of the upstream's volumes, by rising id of the plugin's, from the one on that the token says.
+// listLedger lists what the ledger has of the upstream's volumes, by rising id of the plugin's, from the one on that the token says, as many as are asked for
+// and fit into a message.
 func (server *server) listLedger(ctx context.Context, request *wire.ListVolumesRequest) (*wire.ListVolumesResponse, error) {
 	from, most := uint64(0), int(request.GetMaxEntries())
 	if request.GetMaxEntries() < 0 {
@@ -174,7 +178,7 @@ func (server *server) listLedger(ctx context.Context, request *wire.ListVolumesR
 			return nil, status.Error(codes.Aborted, "starting_token")
 		}
 	}
-	listed := &wire.ListVolumesResponse{}
+	listed, size := &wire.ListVolumesResponse{}, 0
 	err := server.look(ctx, func(view serving.View) {
 		for _, volume := range view.Volumes() {
 			id, there := view.Table().Text(volume)
@@ -182,12 +186,13 @@ func (server *server) listLedger(ctx context.Context, request *wire.ListVolumesR
 			if volume < from || !there || err != nil || !row.Live {
 				continue
 			}
-			if len(listed.Entries) == most {
+			status := &wire.ListVolumesResponse_VolumeStatus{PublishedNodeIds: nodesOf(view, row)}
+			it := &wire.ListVolumesResponse_Entry{Volume: &wire.Volume{VolumeId: id}, Status: status}
+			if size += proto.Size(it); len(listed.Entries) == most || size > mostPage && len(listed.Entries) > 0 {
 				listed.NextToken = strconv.FormatUint(volume, 10)
 				break
 			}
-			status := &wire.ListVolumesResponse_VolumeStatus{PublishedNodeIds: nodesOf(view, row)}
-			listed.Entries = append(listed.Entries, &wire.ListVolumesResponse_Entry{Volume: &wire.Volume{VolumeId: id}, Status: status})
+			listed.Entries = append(listed.Entries, it)
 		}
 	})
 	return listed, err
