@@ -240,6 +240,10 @@ func TestListing(t *testing.T) {
 		}
 		_, err = box.ask(ctx, "/csi.v1.Controller/ControllerGetVolume", &wire.ControllerGetVolumeRequest{VolumeId: "x"})
 		box.wants(err, codes.NotFound, "volume")
+		for _, id := range []string{"", strings.Repeat("x", 4097)} {
+			_, err = box.ask(ctx, "/csi.v1.Controller/ControllerGetVolume", &wire.ControllerGetVolumeRequest{VolumeId: id})
+			box.wants(err, codes.InvalidArgument, "volume_id")
+		}
 		if !it.lists {
 			_, err = box.ask(ctx, "/csi.v1.Controller/ListVolumes", &wire.ListVolumesRequest{StartingToken: "x"})
 			box.wants(err, codes.Aborted, "starting_token")

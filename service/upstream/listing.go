@@ -235,6 +235,9 @@ func (server *server) get(ctx context.Context, raw []byte) (passing.Response, er
 	if err := proto.Unmarshal(raw, &request); err != nil {
 		return passing.Response{}, status.Error(codes.Internal, "the request isn't one of this call")
 	}
+	if id := request.GetVolumeId(); id == "" || len(id) > mostText {
+		return passing.Response{}, status.Error(codes.InvalidArgument, "volume_id")
+	}
 	got := &wire.ControllerGetVolumeResponse{Volume: &wire.Volume{VolumeId: request.GetVolumeId()}, Status: &wire.ControllerGetVolumeResponse_VolumeStatus{}}
 	isThere := false
 	err = server.look(ctx, func(view serving.View) {
