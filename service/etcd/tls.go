@@ -4,27 +4,21 @@ import (
 	"crypto/tls"
 	"crypto/x509"
 	"fmt"
-	"net"
-	"net/url"
 	"os"
-	"strings"
+
+	"tufayon/service/secure"
 )
 
 // secure gives what TLS needs: a client's certificate, unless etcd is on loopback. The certificate is read at each handshake, so a renewed one needs no
 // restart; the authority of etcd's own certificates is read once.
 func (config Config) secure() (*tls.Config, error) {
-	if config.Certificate == "" {
-		for _, endpoint := range config.Endpoints {
-			if !isLoopback(endpoint) {
-				return nil, fmt.Errorf("%s isn't on loopback, so a client's certificate is needed", endpoint)
-			}
-		}
-		return nil, nil
-	}
 	for _, endpoint := range config.Endpoints {
-		if !strings.HasPrefix(endpoint, "https://") {
-			return nil, fmt.Errorf("%s isn't spoken to by TLS", endpoint)
+		if why := secure.EndpointFault(endpoint, config.Certificate != ""); why != "" {
+			return nil, fmt.Errorf("%s %s", endpoint, why)
 		}
+	}
+	if config.Certificate == "" {
+		return nil, nil
 	}
 	if _, err := config.own(nil); err != nil {
 		return nil, err
@@ -47,13 +41,4 @@ func (config Config) own(*tls.CertificateRequestInfo) (*tls.Certificate, error) 
 		return nil, err
 	}
 	return &own, nil
-}
-
-func isLoopback(endpoint string) bool {
-	parsed, err := url.Parse(endpoint)
-	if err != nil {
-		return false
-	}
-	address := net.ParseIP(parsed.Hostname())
-	return address != nil && address.IsLoopback()
 }

@@ -213,6 +213,11 @@ func (etcd *Etcd) check(to *checking) {
 	if len(etcd.Endpoints) == 0 {
 		to.refuse("etcd.endpoints", "there are none")
 	}
+	for at, it := range etcd.Endpoints {
+		if why := secure.EndpointFault(it, etcd.Certificate != ""); why != "" {
+			to.refuse(fmt.Sprintf("etcd.endpoints[%d]", at), "%q %s", it, why)
+		}
+	}
 	if etcd.Prefix == "" {
 		to.refuse("etcd.prefix", "it is missing")
 	}
