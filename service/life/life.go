@@ -173,8 +173,8 @@ func (life *Life) register(server *grpc.Server) {
 
 // serve serves until it is to end, or can't go on.
 func (life *Life) serve(ctx context.Context) error {
-	var err error
-	if life.store, err = life.driver.Open(ctx); err == nil {
+	err := life.openStore(ctx)
+	if err == nil {
 		err = life.open(ctx, nil)
 	}
 	if err != nil {
@@ -204,6 +204,29 @@ func (life *Life) serve(ctx context.Context) error {
 			return nil
 		case <-ctx.Done():
 			return nil
+		}
+	}
+}
+
+// openStore opens the store, which may take long where it waits to lead. Another configuration that comes meanwhile is taken as at a start: there is no record
+// yet that could be judged.
+func (life *Life) openStore(ctx context.Context) error {
+	opened := make(chan error, 1)
+	go func() {
+		var err error
+		life.store, err = life.driver.Open(ctx)
+		opened <- err
+	}()
+	for {
+		select {
+		case err := <-opened:
+			return err
+		case it := <-life.remakes:
+			err := it.maker.Check()
+			if err == nil {
+				life.driver.Maker = it.maker
+			}
+			it.answered <- err
 		}
 	}
 }

@@ -116,29 +116,85 @@ func TestRemake(t *testing.T) {
 	}
 }
 
-// A plugin that is to be made anew while the driver waits to lead isn't waited for any more once the driver has ended by itself.
-func TestRemakeEnded(t *testing.T) {
-	its, opening, opens := errors.New("it can't be opened"), make(chan struct{}), make(chan struct{})
+// Another configuration that comes while the driver waits to lead counts from then on, as at a start, if there may be such a one.
+func TestRemakeWaiting(t *testing.T) {
+	socket, opens, said := filepath.Join(t.TempDir(), "d", "s"), make(chan struct{}), make(chan string, 9)
 	life := New(Driver{
-		Program: "a test", Name: "a.example", Maker: plugin.Maker{Name: []byte("n1")}, Numbering: ByMetadata(1000),
-		Open: func(context.Context) (store.Store, error) {
-			close(opening)
+		Program: "a test", Name: "a.example", Maker: plugin.Maker{Name: []byte("n1")}, Numbering: ByMetadata(1000), Waits: true,
+		Open: func(ctx context.Context) (store.Store, error) {
 			<-opens
-			return nil, its
+			return store.OpenSQLite(ctx, filepath.Join(filepath.Dir(socket), "n.db"))
 		},
-		Say: func(string) {},
+		Doors: []Door{{Address: socket, Listen: func() (net.Listener, error) { return driver.Listen(socket) }}},
+		Say:   func(line string) { said <- line },
 	})
+	ctx, stop := context.WithCancel(context.Background())
+	ended := make(chan error, 1)
+	go func() { ended <- life.Run(ctx) }()
+	t.Cleanup(stop)
+	if line := <-said; line != "waits at "+socket {
+		t.Fatal(line)
+	}
+	soon, cancel := context.WithTimeout(ctx, 2*time.Second)
+	defer cancel()
+	for _, it := range []struct {
+		id   string
+		want error
+	}{{"n2", nil}, {strings.Repeat("n", 256), plugin.BadName}} {
+		if err := life.Remake(soon, plugin.Maker{Name: []byte(it.id)}, nil); !errors.Is(err, it.want) {
+			t.Errorf("as %s: %v, not %v", it.id, err, it.want)
+		}
+	}
+	close(opens)
+	<-said
+	if err := life.Remake(ctx, plugin.Maker{Name: []byte("n1")}, nil); !errors.Is(err, plugin.BadRecord) {
+		t.Errorf("it isn't the record of the other one: %v", err)
+	}
+	stop()
+	if err := <-ended; err != nil {
+		t.Errorf("it ended by %v", err)
+	}
+}
+
+// hangs is a store that can't be read before it is let go on, and then fails.
+type hangs struct {
+	store.Store
+	reads, goesOn chan struct{}
+	err           error
+}
+
+func (hangs hangs) Load(context.Context) ([]store.Part, error) {
+	close(hangs.reads)
+	<-hangs.goesOn
+	return nil, hangs.err
+}
+
+func (hangs) Close() error { return nil }
+
+// hung is a life over such a store, which hangs.
+func hung() (*Life, hangs) {
+	its := hangs{reads: make(chan struct{}), goesOn: make(chan struct{}), err: errors.New("it can't be read")}
+	return New(Driver{
+		Program: "a test", Name: "a.example", Maker: plugin.Maker{Name: []byte("n1")}, Numbering: ByMetadata(1000),
+		Open: func(context.Context) (store.Store, error) { return its, nil },
+		Say:  func(string) {},
+	}), its
+}
+
+// A plugin that is to be made anew isn't waited for any more once the driver has ended by itself.
+func TestRemakeEnded(t *testing.T) {
+	life, its := hung()
 	ran, remade := make(chan error, 1), make(chan error, 1)
 	go func() { ran <- life.Run(context.Background()) }()
-	<-opening
+	<-its.reads
 	go func() { remade <- life.Remake(context.Background(), plugin.Maker{Name: []byte("n1")}, nil) }()
 	select {
 	case err := <-remade:
 		t.Errorf("made anew before there is a record: %v", err)
 	case <-time.After(20 * time.Millisecond):
 	}
-	close(opens)
-	if err := <-ran; !errors.Is(err, its) {
+	close(its.goesOn)
+	if err := <-ran; !errors.Is(err, its.err) {
 		t.Errorf("it ended by %v", err)
 	}
 	select {

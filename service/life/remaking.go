@@ -17,7 +17,7 @@ type Judge func(serving.View) error
 
 // Remake has the plugin made anew of its record, a controller's by another configuration, while the store and the sockets stay, unless that is judged to be
 // wrong. Calls that come meanwhile are refused by 14 `not ready`, as at a start. Where the plugin can't be made so, the one of before goes on, and it says
-// why. While the driver waits to lead, this waits too: until then there is no record that could be judged.
+// why. While the driver waits to lead, it is noted alone: it counts from then on, as at a start, and isn't judged.
 func (life *Life) Remake(ctx context.Context, maker plugin.Maker, judge Judge) error {
 	answered := make(chan error, 1)
 	select {
