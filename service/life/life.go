@@ -178,10 +178,7 @@ func (life *Life) serve(ctx context.Context) error {
 		err = life.open(ctx, nil)
 	}
 	if err != nil {
-		if ctx.Err() != nil && life.core == nil {
-			return nil // it was ended while it waited to lead
-		}
-		return err
+		return unlessTold(ctx, err)
 	}
 	if !life.listens {
 		if err := life.listen(); err != nil {
@@ -198,7 +195,7 @@ func (life *Life) serve(ctx context.Context) error {
 			err := life.remake(ctx, it.maker, it.judge)
 			it.answered <- err
 			if life.core == nil {
-				return err
+				return unlessTold(ctx, err)
 			}
 		case <-life.core.Done():
 			return nil
@@ -206,6 +203,14 @@ func (life *Life) serve(ctx context.Context) error {
 			return nil
 		}
 	}
+}
+
+// unlessTold is why there is nothing that could be served: no reason where it was told to end meanwhile, as one that waits to lead may be.
+func unlessTold(ctx context.Context, err error) error {
+	if ctx.Err() != nil {
+		return nil
+	}
+	return err
 }
 
 // openStore opens the store, which may take long where it waits to lead. Another configuration that comes meanwhile is taken as at a start: there is no record
@@ -257,24 +262,32 @@ func (life *Life) open(ctx context.Context, judge Judge) error {
 	if err != nil {
 		return err
 	}
-	if err := judge.of(ctx, core); err != nil {
+	if err := life.prepare(ctx, core, judge); err != nil {
 		core.Close()
+		if failed := core.Err(); failed != nil {
+			return failed // of which the other one came
+		}
 		return err
 	}
 	life.core = core
-	if behind := life.driver.Upstream; behind != nil {
-		if err := behind.Opened(ctx, core, life.driver.Maker); err != nil {
-			return err
-		}
-	}
-	if err := life.restore(ctx, core); err != nil {
-		return err
-	}
 	life.backend.Serve(core)
 	if life.driver.Observer != nil {
 		life.driver.Observer.Serves(core)
 	}
 	return nil
+}
+
+// prepare judges what a core has, and does what comes before it is served.
+func (life *Life) prepare(ctx context.Context, core *serving.Core, judge Judge) error {
+	if err := judge.of(ctx, core); err != nil {
+		return err
+	}
+	if behind := life.driver.Upstream; behind != nil {
+		if err := behind.Opened(ctx, core, life.driver.Maker); err != nil {
+			return err
+		}
+	}
+	return life.restore(ctx, core)
 }
 
 // end ends it in time: what is under way may go on for a while, then hooks are killed, then all else is given up.

@@ -15,6 +15,7 @@ import (
 	"google.golang.org/grpc/status"
 
 	"tufayon/service/driver"
+	"tufayon/service/hooks"
 	"tufayon/service/numbers"
 	"tufayon/service/plugin"
 	"tufayon/service/serving"
@@ -113,6 +114,26 @@ func TestRemake(t *testing.T) {
 	}
 	if _, _, end := lived(t, folder, "n2"); !errors.Is(end(), plugin.BadRecord) {
 		t.Error("another node's record")
+	}
+}
+
+// A driver that is told to end while it begins ends so, and by no failure.
+func TestToldToEnd(t *testing.T) {
+	folder := t.TempDir()
+	ctx, stop := context.WithCancel(context.Background())
+	life := New(Driver{
+		Program: "a test", Name: "a.example", Maker: plugin.Maker{Name: []byte("n1")}, Hooks: hooks.None{}, Starts: filepath.Join(folder, "n.db.boot"),
+		Numbering: func(uint64) (numbers.Source, error) {
+			stop() // there is a core by then, and what its machine's start took isn't mounted anew yet
+			return numbers.Metadata{}, nil
+		},
+		Open: func(ctx context.Context) (store.Store, error) {
+			return store.OpenSQLite(ctx, filepath.Join(folder, "n.db"))
+		},
+		Say: func(string) {},
+	})
+	if err := life.Run(ctx); err != nil {
+		t.Errorf("it ended by %v", err)
 	}
 }
 
