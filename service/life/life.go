@@ -72,6 +72,7 @@ type Life struct {
 	remakes chan remade
 	ended   chan struct{} // closed once Run returns
 	anew    *driver.Anew  // what is to be staged and published anew
+	most    time.Duration // that an end may take
 
 	// What there is by now.
 	listens bool
@@ -95,12 +96,14 @@ func New(it Driver) *Life {
 	}
 	life := &Life{
 		driver: it, backend: driver.NewBackend(), served: make(chan error, len(it.Doors)), remakes: make(chan remade), ended: make(chan struct{}),
+		most: callsEnd + mostEnd,
 	}
 	life.anew = driver.NewAnew(string(it.Maker.Name), it.Hooks, life.backend)
 	return life
 }
 
-// Run runs the driver until the context ends, or it can't go on. It is called once.
+// Run runs the driver until the context ends, or it can't go on, and ends it in time: what is under way may go on for a while, then hooks are killed, then
+// all else is given up. It is called once.
 func (life *Life) Run(ctx context.Context) error {
 	defer close(life.ended)
 	if err := life.driver.Maker.Check(); err != nil {
@@ -110,19 +113,40 @@ func (life *Life) Run(ctx context.Context) error {
 	telling, told := context.WithCancel(context.Background())
 	defer told()
 	go life.tellTroubles(telling)
-	var err error
-	if life.driver.Waits { // its sockets are there meanwhile, and tell that it isn't ready
-		if err = life.listen(); err == nil {
-			life.say("waits at %s")
+	ends, ended := make(chan error, 1), make(chan error, 1)
+	go func() {
+		err := life.live(ctx)
+		ends <- err
+		if failed := life.endAll(); err == nil {
+			err = failed
 		}
+		ended <- err
+	}()
+	var why error
+	select {
+	case why = <-ends:
+	case <-ctx.Done():
 	}
-	if err == nil {
-		err = life.serve(ctx)
+	select {
+	case err := <-ended:
+		return err
+	case <-time.After(life.most):
 	}
-	if ended := life.end(); err == nil {
-		err = ended
+	if why == nil {
+		why = fmt.Errorf("%w: something under way can't be ended", store.ErrDevice)
 	}
-	return err
+	return why
+}
+
+// live serves, until it is to end, or can't go on. Where it waits, its sockets are there meanwhile, and tell that it isn't ready.
+func (life *Life) live(ctx context.Context) error {
+	if life.driver.Waits {
+		if err := life.listen(); err != nil {
+			return err
+		}
+		life.say("waits at %s")
+	}
+	return life.serve(ctx)
 }
 
 // say tells how far it is, with where it is called.
@@ -290,18 +314,7 @@ func (life *Life) prepare(ctx context.Context, core *serving.Core, judge Judge) 
 	return life.restore(ctx, core)
 }
 
-// end ends it in time: what is under way may go on for a while, then hooks are killed, then all else is given up.
-func (life *Life) end() error {
-	ended := make(chan error, 1)
-	go func() { ended <- life.endAll() }()
-	select {
-	case err := <-ended:
-		return err
-	case <-time.After(callsEnd + mostEnd):
-		return fmt.Errorf("%w: something under way can't be ended", store.ErrDevice)
-	}
-}
-
+// endAll ends what there is.
 func (life *Life) endAll() error {
 	err := life.endCore()
 	life.finish()

@@ -6,6 +6,7 @@ import (
 	"net"
 	"path/filepath"
 	"strings"
+	"sync"
 	"testing"
 	"time"
 
@@ -177,34 +178,72 @@ func TestRemakeWaiting(t *testing.T) {
 	}
 }
 
-// hangs is a store that can't be read before it is let go on, and then fails.
+// hangs is a store that can be read so often; then that hangs until it is let go on, and fails.
 type hangs struct {
 	store.Store
-	reads, goesOn chan struct{}
-	err           error
+	loads                 int
+	once                  sync.Once
+	reads, goesOn, closed chan struct{}
+	err                   error
 }
 
-func (hangs hangs) Load(context.Context) ([]store.Part, error) {
-	close(hangs.reads)
+func (hangs *hangs) Load(ctx context.Context) ([]store.Part, error) {
+	if hangs.loads--; hangs.loads >= 0 {
+		return hangs.Store.Load(ctx)
+	}
+	hangs.once.Do(func() { close(hangs.reads) })
 	<-hangs.goesOn
 	return nil, hangs.err
 }
 
-func (hangs) Close() error { return nil }
+func (hangs *hangs) Close() error {
+	defer close(hangs.closed)
+	return hangs.Store.Close()
+}
 
-// hung is a life over such a store, which hangs.
-func hung() (*Life, hangs) {
-	its := hangs{reads: make(chan struct{}), goesOn: make(chan struct{}), err: errors.New("it can't be read")}
+// hung is a life over such a store, and a channel that has something once it serves.
+func hung(t *testing.T, loads int) (*Life, *hangs, <-chan string) {
+	its := &hangs{loads: loads, reads: make(chan struct{}), goesOn: make(chan struct{}), closed: make(chan struct{}), err: errors.New("it can't be read")}
+	socket, said := filepath.Join(t.TempDir(), "d", "s"), make(chan string, 9)
 	return New(Driver{
 		Program: "a test", Name: "a.example", Maker: plugin.Maker{Name: []byte("n1")}, Numbering: ByMetadata(1000),
-		Open: func(context.Context) (store.Store, error) { return its, nil },
-		Say:  func(string) {},
-	}), its
+		Open: func(ctx context.Context) (_ store.Store, err error) {
+			its.Store, err = store.OpenSQLite(ctx, filepath.Join(filepath.Dir(filepath.Dir(socket)), "n.db"))
+			return its, err
+		},
+		Doors: []Door{{Address: socket, Listen: func() (net.Listener, error) { return driver.Listen(socket) }}},
+		Say:   func(line string) { said <- line },
+	}), its, said
+}
+
+// What hangs holds up no end: the driver ends in time, and who has its plugin made anew isn't left waiting.
+func TestHangs(t *testing.T) {
+	life, its, said := hung(t, 1)
+	life.most = 100 * time.Millisecond
+	ctx, stop := context.WithCancel(context.Background())
+	ran, remade := make(chan error, 1), make(chan error, 1)
+	go func() { ran <- life.Run(ctx) }()
+	<-said
+	go func() { remade <- life.Remake(context.Background(), plugin.Maker{Name: []byte("n1")}, nil) }()
+	<-its.reads
+	stop()
+	for ended, want := range map[<-chan error]error{ran: store.ErrDevice, remade: ErrEnded} {
+		select {
+		case err := <-ended:
+			if !errors.Is(err, want) {
+				t.Errorf("it ended by %v, not %v", err, want)
+			}
+		case <-time.After(2 * time.Second):
+			t.Errorf("it hangs, and doesn't end by %v", want)
+		}
+	}
+	close(its.goesOn)
+	<-its.closed
 }
 
 // A plugin that is to be made anew isn't waited for any more once the driver has ended by itself.
 func TestRemakeEnded(t *testing.T) {
-	life, its := hung()
+	life, its, _ := hung(t, 0)
 	ran, remade := make(chan error, 1), make(chan error, 1)
 	go func() { ran <- life.Run(context.Background()) }()
 	<-its.reads

@@ -27,7 +27,12 @@ func (life *Life) Remake(ctx context.Context, maker plugin.Maker, judge Judge) e
 	case <-ctx.Done():
 		return ctx.Err()
 	}
-	return <-answered // which comes, whatever ends the driver
+	select {
+	case err := <-answered:
+		return err
+	case <-life.ended: // though something hangs
+		return ErrEnded
+	}
 }
 
 // remake judges it twice: while calls are answered, which all go on where it is wrong, and once none are.
