@@ -25,6 +25,22 @@ func (deed Deed) Hide(text string) string {
 	return text
 }
 
+// hideRest gives the end of a text with *** in place of what it may begin with of a secret of the deed that began before.
+func (deed Deed) hideRest(text string) string {
+	rest := 0
+	for _, secret := range deed.Private.secrets() {
+		for size := len(secret) - 1; size > rest; size-- {
+			if strings.HasPrefix(text, secret[len(secret)-size:]) {
+				rest = size
+			}
+		}
+	}
+	if rest == 0 {
+		return text
+	}
+	return hidden + text[rest:]
+}
+
 // secrets are the secrets as a command may tell them, each without the space around it, as a shell takes it away: whole, or a line of several.
 func (private Private) secrets() []string {
 	var texts []string

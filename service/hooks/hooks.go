@@ -134,7 +134,11 @@ func (run running) await(ctx context.Context, command *exec.Cmd) error {
 // fault is what a command that failed said last, without what is private.
 func (run running) fault(err error, output, faults *os.File) error {
 	for _, file := range []*os.File{faults, output} {
-		if line := lastLine(run.deed.Hide(last(file))); line != "" { // hidden before: a secret may have several lines
+		text, isCut := last(file)
+		if isCut {
+			text = run.deed.hideRest(text)
+		}
+		if line := lastLine(run.deed.Hide(text)); line != "" { // hidden before: a secret may have several lines
 			return errors.New(line)
 		}
 	}
@@ -155,14 +159,15 @@ func first(file *os.File) []byte {
 	return said
 }
 
-func last(file *os.File) string {
+// last gives the last bytes of a file, and whether there are others before them.
+func last(file *os.File) (text string, isCut bool) {
 	end, _ := file.Seek(0, io.SeekEnd)
 	from := end - 4096
 	if from < 0 {
 		from = 0
 	}
 	said, _ := io.ReadAll(io.NewSectionReader(file, from, 4096))
-	return string(said)
+	return string(said), from > 0
 }
 
 func lastLine(output string) string {

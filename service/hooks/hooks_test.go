@@ -114,6 +114,19 @@ func TestFailing(t *testing.T) {
 	}
 }
 
+// Of a line that is too long the end is told: also where that begins within a secret nothing of it.
+func TestFailingWithLongLine(t *testing.T) {
+	for _, rest := range []int{1, 12, 20, 21} {
+		deed := stage
+		deed.Private.Secrets = map[string]string{"key": "0123456789-abcdefghij", "other": "ghij"}
+		script := fmt.Sprintf(`printf 'no: 0123456789-abcdefghij' >&2; head -c %d /dev/zero | tr '\0' x >&2; exit 1`, 4096-rest)
+		_, err := newPlace(t).commands(script, time.Minute).Do(context.Background(), deed)
+		if want := "***" + strings.Repeat("x", 4096-rest); err == nil || err.Error() != want {
+			t.Errorf("with %d bytes of it: %.40v..", rest, err)
+		}
+	}
+}
+
 // A secret of several lines, or with an end of the line that a shell takes away, isn't told either, whichever line of it is the last one.
 func TestFailingWithLines(t *testing.T) {
 	deed := stage
