@@ -110,7 +110,7 @@ var PluginName = regexp.MustCompile(`^[A-Za-z0-9]([-.A-Za-z0-9]{0,61}[A-Za-z0-9]
 func (settings *PluginSettings) check(to *checking) {
 	plugin := &settings.Plugin
 	plugin.Place.check(to)
-	if local := plugin.Local; local != "" && (!isSocket(local) || local == plugin.Listen) {
+	if local := plugin.Local; local != "" && (!isSocket(local) || local == plugin.Listen || local == plugin.Watch) {
 		to.refuse("local", "%q is no unix://PATH, with an absolute path, of its own", local)
 	}
 	if !PluginName.MatchString(plugin.Name) {
@@ -150,7 +150,7 @@ func (settings *PluginSettings) checkUpstream(to *checking) {
 		}
 		return
 	}
-	if !isSocket(plugin.Upstream) || plugin.Upstream == plugin.Listen {
+	if its := plugin.Upstream; !isSocket(its) || its == plugin.Listen || its == plugin.Local || its == plugin.Watch {
 		to.refuse("upstream", "%q is no unix://PATH, with an absolute path, of its own", plugin.Upstream)
 	}
 	if !carrying.IsLocal(plugin.Listen) {

@@ -261,6 +261,9 @@ func TestReadPlugin(t *testing.T) {
 			`upstream: "/u" is no unix://PATH`, `listen: "127.0.0.1:1" is no Unix socket`, "upstream: with one there are no commands, mounts or max_volumes",
 			`numbers: "some" is neither metadata nor arrival`, "lost: it is for numbers by arrival", "adopt: adopt and lost are a controller's", "over TCP there have to be",
 		}},
+		{secure.Node, strings.Replace(node, `"users": [7]`, `"local": "unix:///w", "watch": "unix:///w"`, 1), []string{`process.json: local: "unix:///w" is no unix://PATH`}},
+		{secure.Controller, `{"set": "set.json", "store": "c.db", "upstream": "unix:///u", "watch": "unix:///u"}`, []string{`upstream: "unix:///u" is no unix://PATH`}},
+		{secure.Controller, `{"set": "set.json", "store": "c.db", "upstream": "unix:///u", "local": "unix:///u"}`, []string{`upstream: "unix:///u" is no unix://PATH`}},
 		{secure.Controller, `{"set": "set.json", "store": "c.db", "adopt": true}`, []string{"upstream: without one there is no numbers, adopt or lost"}},
 		{secure.Controller, `{"set": "set.json"}`, []string{"store: either this file is there, or etcd"}},
 	} {
