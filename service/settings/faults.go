@@ -136,17 +136,27 @@ func (set *Set) checkControllers(to *checking) map[string]string {
 }
 
 func (times Times) check(to *checking) {
-	if times.Answer <= 0 {
-		to.refuse("times.answer", "%v isn't above 0", times.Answer)
-	}
-	if times.Retry <= 0 {
-		to.refuse("times.retry", "%v isn't above 0", times.Retry)
-	}
+	to.seconds("times.answer", times.Answer)
+	to.seconds("times.retry", times.Retry)
 	if times.MostRetry < times.Retry {
 		to.refuse("times.most_retry", "%v is below times.retry, %v", times.MostRetry, times.Retry)
+	} else if times.Retry > 0 {
+		to.seconds("times.most_retry", times.MostRetry)
 	}
 	if times.Patience < times.Answer {
 		to.refuse("times.patience", "%v is below times.answer, %v: a use would be undone while its first call may be answered", times.Patience, times.Answer)
+	} else if times.Answer > 0 {
+		to.seconds("times.patience", times.Patience)
+	}
+}
+
+// seconds judges how many seconds a time has.
+func (it *checking) seconds(place string, count float64) {
+	switch {
+	case count <= 0:
+		it.refuse(place, "%v isn't above 0", count)
+	case count > MostSeconds:
+		it.refuse(place, "%v is above %v", count, float64(MostSeconds))
 	}
 }
 

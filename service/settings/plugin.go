@@ -116,9 +116,7 @@ func (settings *PluginSettings) check(to *checking) {
 	if !PluginName.MatchString(plugin.Name) {
 		to.refuse("name", "%q is no name of a plugin, as CSI has them", plugin.Name)
 	}
-	if plugin.CommandSeconds <= 0 {
-		to.refuse("command_seconds", "%v isn't above 0", plugin.CommandSeconds)
-	}
+	to.seconds("command_seconds", plugin.CommandSeconds)
 	for deed, command := range plugin.Commands {
 		if Deeds[settings.Role][deed] == "" {
 			to.refuse("commands."+deed, "a %s has no such deed", settings.Role)

@@ -89,6 +89,10 @@ type Settings struct {
 	File    string // of the process
 }
 
+// MostSeconds is how many seconds a time may have, which is some thirty years: of ten times as many Go has no time any more, and what is above would be over
+// at once.
+const MostSeconds = 1e9
+
 // Seconds is a time of so many seconds.
 func Seconds(count float64) time.Duration { return time.Duration(count * float64(time.Second)) }
 

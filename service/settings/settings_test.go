@@ -75,6 +75,9 @@ func TestFaults(t *testing.T) {
 		{`{"times": {"patience": 1, "retry": 0, "most_retry": 1}}`, process, []string{
 			"set.json: set: ", "set.json: greatest: 0 ", "set.json: staging: ", "set.json: controller: either it", "set.json: times.retry: 0", "set.json: times.patience: 1 is below",
 		}},
+		{strings.Replace(set, "{", `{"times": {"patience": 1e11, "answer": 1e10, "retry": 1, "most_retry": 1e10}, `, 1), process, []string{
+			"set.json: times.answer: 1e+10 is above 1e+09", "set.json: times.most_retry: 1e+10 is above 1e+09", "set.json: times.patience: 1e+11 is above 1e+09",
+		}},
 		{strings.Replace(set, `"n2"`, `"n1"`, 1), process, []string{`set.json: nodes[1].id: "n1" is that of nodes[0] too`}},
 		{strings.Replace(set, `/run/n2`, `/run/n1`, 1), process, []string{`set.json: nodes[1].address: "unix:///run/n1.sock" is that of nodes[0] too`}},
 		{strings.Replace(set, `unix:///run/n2.sock`, `unix://n2.sock`, 1), process, []string{"set.json: nodes[1].address: \"unix://n2.sock\" has no absolute path"}},
@@ -261,6 +264,7 @@ func TestReadPlugin(t *testing.T) {
 			`upstream: "/u" is no unix://PATH`, `listen: "127.0.0.1:1" is no Unix socket`, "upstream: with one there are no commands, mounts or max_volumes",
 			`numbers: "some" is neither metadata nor arrival`, "lost: it is for numbers by arrival", "adopt: adopt and lost are a controller's", "over TCP there have to be",
 		}},
+		{secure.Node, strings.Replace(node, `"users": [7]`, `"command_seconds": 1e10`, 1), []string{"process.json: command_seconds: 1e+10 is above 1e+09"}},
 		{secure.Node, strings.Replace(node, `"users": [7]`, `"local": "unix:///w", "watch": "unix:///w"`, 1), []string{`process.json: local: "unix:///w" is no unix://PATH`}},
 		{secure.Controller, `{"set": "set.json", "store": "c.db", "upstream": "unix:///u", "watch": "unix:///u"}`, []string{`upstream: "unix:///u" is no unix://PATH`}},
 		{secure.Controller, `{"set": "set.json", "store": "c.db", "upstream": "unix:///u", "local": "unix:///u"}`, []string{`upstream: "unix:///u" is no unix://PATH`}},

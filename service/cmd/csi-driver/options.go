@@ -109,7 +109,7 @@ func parse(words []string) (*options, error) {
 
 // fit says whether the options have values that they may have, and each that another one needs.
 func (options *options) fit() bool {
-	if !settings.PluginName.MatchString(options.name) || options.hookSeconds <= 0 {
+	if !settings.PluginName.MatchString(options.name) || options.hookSeconds <= 0 || options.hookSeconds > settings.MostSeconds {
 		return false
 	}
 	if !options.maker.IsController {
