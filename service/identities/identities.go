@@ -117,22 +117,27 @@ func (table *Table) Taken(ids ...uint64) []store.Text {
 	return changes
 }
 
+// Long is how many long texts there are.
+func (table *Table) Long() int { return len(table.long) }
+
 // Unused are the changes that take out the long texts whose digests are in no value of the record.
 func (table *Table) Unused(record []store.Part) []store.Text {
+	if len(table.long) == 0 {
+		return nil
+	}
+	used := make(map[string]bool, len(table.long))
+	for _, it := range record {
+		for rest, found := string(it.Value), true; found; {
+			if _, rest, found = strings.Cut(rest, digested); found && len(rest) >= digits {
+				used[rest[:digits]] = true
+			}
+		}
+	}
 	var changes []store.Text
 	for digest := range table.long {
-		if !isIn(digest, record) {
+		if !used[digest] {
 			changes = append(changes, store.Text{Key: longKey + digest, Out: true})
 		}
 	}
 	return changes
-}
-
-func isIn(digest string, record []store.Part) bool {
-	for _, it := range record {
-		if strings.Contains(string(it.Value), digest) {
-			return true
-		}
-	}
-	return false
 }

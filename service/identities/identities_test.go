@@ -4,6 +4,7 @@ import (
 	"crypto/sha256"
 	"encoding/hex"
 	"errors"
+	"fmt"
 	"reflect"
 	"strings"
 	"testing"
@@ -112,5 +113,24 @@ func TestUnused(t *testing.T) {
 	record := []store.Part{{Key: 1, Value: []byte("\x03\x01" + used.Text + "\x00")}}
 	if changes := table.Unused(record); !reflect.DeepEqual(changes, []store.Text{{Key: unused.Kept[0].Key, Out: true}}) {
 		t.Errorf("unused are %v", changes)
+	}
+}
+
+// Unused texts are found in one pass over the record, however many there are.
+func TestManyUnused(t *testing.T) {
+	table, err := New(nil)
+	if err != nil {
+		t.Fatal(err)
+	}
+	var record []store.Part
+	for at := 0; at < 300; at++ {
+		used, unused := Shorten(fmt.Sprintf("/%0200d", at), 128), Shorten(fmt.Sprintf("%0200d", at), 128)
+		table.Apply(append(used.Kept, unused.Kept...))
+		record = append(record, store.Part{Key: uint64(at), Value: []byte("\x03\x01" + used.Text + "\x01" + digested + used.Text + "\x00")})
+	}
+	var changes []store.Text
+	allocations := testing.AllocsPerRun(1, func() { changes = table.Unused(record) })
+	if len(changes) != 300 || allocations > 10*300 {
+		t.Errorf("%d are unused, and %v were allocated for that", len(changes), allocations)
 	}
 }

@@ -14,6 +14,9 @@ const (
 	adopted  = "adopted:"
 )
 
+// digits are those of a digest.
+const digits = 2 * sha256.Size
+
 // A Short is a text as a plugin has it, and what is to be kept beside the record for that: nothing of a text that it has itself.
 type Short struct {
 	Text string

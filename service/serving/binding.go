@@ -137,6 +137,7 @@ func (core *Core) knownOf(plan plan) Known {
 
 // askAll has the plugin answer a plan's calls, as far as it allows them.
 func (core *Core) askAll(group *group, plan plan) (asked, error) {
+	core.dropLong(group)
 	result := asked{isOK: true, known: core.knownOf(plan)}
 	for _, it := range plan.steps {
 		var err error
@@ -203,6 +204,28 @@ func (core *Core) keep(group *group, texts []store.Text) {
 	}
 }
 
+// leastLong is how many long texts there are at least where those are looked for that no row has any more.
+const leastLong = 1024
+
+// dropLong takes out the long texts that no row has any more, once there are twice as many as rows had at the last time. No call is between its texts and its row.
+func (core *Core) dropLong(group *group) {
+	if core.texts == nil || core.texts.Long() < core.longs {
+		return
+	}
+	parts := make([]store.Part, 0, len(core.parts))
+	for key, value := range core.parts {
+		parts = append(parts, store.Part{Key: key, Value: value})
+	}
+	core.keep(group, core.texts.Unused(parts))
+	core.limitLong()
+}
+
+func (core *Core) limitLong() {
+	if core.longs = 2 * core.texts.Long(); core.longs < leastLong {
+		core.longs = leastLong
+	}
+}
+
 // takeOut takes the texts of those volumes out whose rows went.
 func (core *Core) takeOut(group *group, changes []store.Change) {
 	if core.texts == nil {
@@ -265,6 +288,7 @@ func (core *Core) loadTexts(ctx context.Context, parts []store.Part) ([]store.Te
 		changes = append(changes, identities.Mark())
 	}
 	core.texts.Apply(changes)
+	core.limitLong()
 	return changes, nil
 }
 

@@ -170,6 +170,28 @@ func TestKeep(t *testing.T) {
 	}
 }
 
+// Long texts that no row has any more don't stay until the next start.
+func TestLongTexts(t *testing.T) {
+	kept := &keeping{newMemory(), map[string]string{}}
+	core := openKeeping(t, kept)
+	for at := 1; at <= 2*leastLong; at++ {
+		its := fmt.Sprintf("/%0300d", at)
+		request := bound("a", frames.NodeStageVolumeKind)
+		bind := request.Bind
+		request.Bind = func(view View) (Bound, error) {
+			bound, err := bind(view)
+			bound.Texts = append(bound.Texts, identities.Shorten(its, 255).Kept...)
+			return bound, err
+		}
+		if _, err := core.Carry(numbered(1, uint64(at)), request); err != nil {
+			t.Fatal(err)
+		}
+		if last := identities.Shorten(its, 255).Kept[0]; kept.texts[last.Key] != its || len(kept.texts) > leastLong+2 {
+			t.Fatalf("after %d texts there are %d, with %q", at, len(kept.texts), kept.texts[last.Key])
+		}
+	}
+}
+
 // A request with another key waits for that too.
 func TestAlso(t *testing.T) {
 	core, slow, quick := openKeeping(t, &keeping{newMemory(), map[string]string{}}), newDeed(), done()

@@ -137,6 +137,7 @@ type Core struct {
 	notes  Notes
 	paths  *staging.Paths
 	texts  *identities.Table // nil where there are none
+	longs  int               // so many long texts may there be before those are taken out that no row has
 	begun  begun
 	last   map[uint64]last // by the volumes' ids
 	late   map[uint64]bool // volumes without a row, whose last calls are to be taken out of what stands beside the record
