@@ -180,7 +180,7 @@ func unpublish(deed hooks.Deed) error {
 		return nil // the directory of the target is gone, and so is what was in it
 	}
 	if err != nil {
-		return err
+		return unreached(deed.Target, deed.Staging, err)
 	}
 	defer target.close()
 	for {
@@ -199,6 +199,28 @@ func unpublish(deed hooks.Deed) error {
 	}
 }
 
+// unreached is what becomes of undoing a publication at a target that isn't reached, as one behind a link, where nothing can have been published either: it is
+// done, unless the volume is mounted anywhere else than where it is staged, since what is a link by now may have been a directory then.
+func unreached(target, staging string, why error) error {
+	if !hooks.IsAbsolute(target) {
+		return why
+	}
+	volume, err := openStaged(staging)
+	if err != nil {
+		return why
+	}
+	defer volume.close()
+	whole, err := clean(staging)
+	if err != nil {
+		return why
+	}
+	found, err := mounts(func(it mount) bool { return it.source == volume.source && it.point != whole })
+	if err != nil || len(found) > 0 {
+		return why
+	}
+	return nil
+}
+
 // has says whether the volume that is staged at a path is mounted at the place, or something else is. It fails where the volume is mounted there and
 // something else above it. What it opens it closes: what is open can't be unmounted.
 func (place *place) has(staging string) (isVolume, isOther bool, err error) {
@@ -207,7 +229,7 @@ func (place *place) has(staging string) (isVolume, isOther bool, err error) {
 		return false, false, nil
 	}
 	if err != nil {
-		return false, false, err
+		return false, true, unreached(place.path, staging, err)
 	}
 	defer there.Close()
 	isMounted, err := place.isMounted(there)

@@ -281,8 +281,6 @@ func TestPaths(t *testing.T) {
 		{box.publication("link", "t"), ErrLink},
 		{hooks.Deed{Call: "NodeStageVolume", Staging: box.at("link"), Capability: &mountHow}, ErrLink},
 		{hooks.Deed{Call: "NodeStageVolume", Staging: box.at("link/v"), Capability: &mountHow}, ErrLink},
-		{hooks.Deed{Call: "NodeUnpublishVolume", Staging: box.at("v"), Target: box.at("link/t")}, ErrLink},
-		{hooks.Deed{Call: "NodeUnpublishVolume", Staging: box.at("v"), Target: box.at("link")}, ErrLink},
 		{hooks.Deed{Call: "NodeStageVolume", Staging: box.folder + "/v/../w", Capability: &mountHow}, ErrPath},
 		{hooks.Deed{Call: "NodeStageVolume", Staging: "w", Capability: &mountHow}, ErrPath},
 		{hooks.Deed{Call: "NodePublishVolume", Staging: box.at("v"), Target: box.folder + "/v/../t", Capability: &mountHow}, ErrPath},
@@ -305,6 +303,38 @@ func TestPaths(t *testing.T) {
 	box.wantsMounts("t", 1)
 	box.must(box.does(box.publication("v", "t")))
 	box.wantsMounts("t", 1)
+}
+
+// At a target that isn't reached nothing is published, and to undo that is done: else the volume would be published there for ever. Where the volume is
+// mounted that isn't known.
+func TestUnreached(t *testing.T) {
+	box := newBox(t)
+	box.stages("v")
+	box.tmpfs("v", 0) // as a command may have done
+	box.must(os.WriteFile(box.at("file"), nil, 0o600))
+	box.must(os.Mkdir(box.at("elsewhere"), 0o700))
+	box.must(os.Symlink(box.at("elsewhere"), box.at("link")))
+	for _, isMounted := range []bool{false, true} {
+		if isMounted {
+			box.must(box.does(box.publication("v", "t")))
+		}
+		for _, target := range []string{box.at("link/t"), box.at("link"), box.at("file/t"), "/"} {
+			deed := hooks.Deed{Call: "NodePublishVolume", Staging: box.at("v"), Target: target, Capability: &mountHow}
+			if err := box.does(deed); err == nil {
+				t.Errorf("published at %s", target)
+			}
+			deed.Call = "NodeUnpublishVolume"
+			if err := box.does(deed); (err != nil) != isMounted {
+				t.Errorf("undone at %s, mounted %v: %v", target, isMounted, err)
+			}
+			deed.Staging = box.at("missing")
+			if err := box.does(deed); err == nil {
+				t.Errorf("undone at %s of a volume that isn't staged", target)
+			}
+		}
+	}
+	box.must(box.unpublishes("v", "t"))
+	box.wantsFile("link", true)
 }
 
 // Where nothing may be mounted, a publication fails, and leaves nothing.
