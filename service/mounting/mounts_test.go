@@ -266,6 +266,26 @@ func TestTaken(t *testing.T) {
 	box.wantsFile("t", false)
 }
 
+// Where nothing can be made nor taken out a volume is published at a directory that is there, and undone.
+func TestReadonlyPlace(t *testing.T) {
+	box := newBox(t)
+	box.stages("v")
+	box.must(os.Mkdir(box.at("ro"), 0o700))
+	box.tmpfs("ro", 0)
+	box.must(os.Mkdir(box.at("ro/there"), 0o700))
+	box.must(os.WriteFile(box.at("ro/file"), nil, 0o600))
+	box.tmpfs("ro", unix.MS_REMOUNT|unix.MS_RDONLY)
+	box.must(box.does(box.publication("v", "ro/there")))
+	box.wants(box.does(box.publication("v", "ro/missing")), unix.EROFS)
+	for _, target := range []string{"ro/there", "ro/missing", "ro/file", "ro/there"} {
+		if err := box.unpublishes("v", target); err != nil {
+			t.Errorf("undone at %s: %v", target, err)
+		}
+		box.wantsMounts(target, 0)
+	}
+	box.wantsFile("ro/there", true)
+}
+
 // No link is followed, and no parent directory named.
 func TestPaths(t *testing.T) {
 	box := newBox(t)

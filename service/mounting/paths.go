@@ -123,10 +123,15 @@ func (place *place) take() error {
 	switch {
 	case errors.Is(err, unix.ENOTDIR):
 		return place.takeFile()
-	case errors.Is(err, unix.ENOENT), errors.Is(err, unix.ENOTEMPTY):
+	case errors.Is(err, unix.ENOENT), errors.Is(err, unix.ENOTEMPTY), stays(err):
 		return nil
 	}
 	return place.fails(err)
+}
+
+// stays says whether nothing may be taken out at a place, as in a file system that is read only. There a publication is undone once it is unmounted.
+func stays(err error) bool {
+	return errors.Is(err, unix.EROFS) || errors.Is(err, unix.EPERM) || errors.Is(err, unix.EACCES)
 }
 
 func (place *place) takeFile() error {
@@ -137,5 +142,8 @@ func (place *place) takeFile() error {
 	if status.Mode&unix.S_IFMT != unix.S_IFREG || status.Size > 0 {
 		return nil
 	}
-	return place.fails(unix.Unlinkat(place.below(), place.name, 0))
+	if err := unix.Unlinkat(place.below(), place.name, 0); !stays(err) {
+		return place.fails(err)
+	}
+	return nil
 }
