@@ -72,8 +72,11 @@ func (core *Core) commit(group *group) error {
 	return err
 }
 
-// acted does what a request asks for, and tells how long that took.
+// acted does what a request asks for, and tells how long that took. Once what is being done is to end nothing is begun any more, only to be ended at once.
 func (core *Core) acted(request Request, known Known) (any, error) {
+	if core.acting.Err() != nil {
+		return nil, errTooLate
+	}
 	began := time.Now()
 	gave, err := request.Act(core.acting, known)
 	core.config.Observer.Acted(request.kind(), time.Since(began), err)

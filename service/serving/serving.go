@@ -105,6 +105,8 @@ var (
 	errEnded  = status.Error(codes.Unavailable, "serving ended")
 	errMemory = status.Error(codes.ResourceExhausted, "memory")
 	errCalls  = status.Error(codes.ResourceExhausted, "calls")
+	// errTooLate is what becomes of a deed that wasn't begun before the core's end.
+	errTooLate = status.Error(codes.Unavailable, "the driver ends: it wasn't begun")
 	// errNotBegun is what a call of a session gets that wasn't begun here, where one was.
 	errNotBegun = status.Error(codes.FailedPrecondition, "session not begun")
 )

@@ -443,6 +443,24 @@ func TestLimitAnew(t *testing.T) {
 	wants(t, core, numbered(1, 3), stage(3), codes.OK)
 }
 
+// What waits behind a deed that the end ends isn't begun any more: it would be killed at once.
+func TestEndBehind(t *testing.T) {
+	kept, slow, behind := newMemory(), newDeed(), newDeed()
+	core := open(t, kept, 10, &faults{})
+	first := carry(core, numbered(1, 1), stage(1).by(slow))
+	<-slow.begun
+	second := carry(core, numbered(1, 2), unstage(1).by(behind))
+	for waiting(core, key{volume: 1}) < 1 {
+		time.Sleep(time.Millisecond)
+	}
+	core.Close()
+	wantsError(t, first, codes.Unavailable)
+	wantsError(t, second, codes.Unavailable)
+	if behind.times() != 0 || !kept.has(1) {
+		t.Errorf("it was begun %d times, and is in the store: %v", behind.times(), kept.has(1))
+	}
+}
+
 // An end waits for what is under way, for a while, and then ends it: no reply is given, and the store has what may be there.
 func TestEnd(t *testing.T) {
 	kept, slow := newMemory(), newDeed()
