@@ -99,9 +99,20 @@ func (core *Core) do(ctx context.Context, key key, request Request, joined *act)
 	}
 	asked.answer.Acted, err = core.act(key, request, asked.known, joined)
 	if err != nil {
+		core.goBack(request, asked.known, err)
 		return Answer{}, request.failed(err)
 	}
 	return asked.answer, core.keepAfter(request, asked.known, asked.answer.Acted)
+}
+
+// goBack undoes what a deed left that failed, where that is wanted.
+func (core *Core) goBack(request Request, known Known, err error) {
+	if request.Back == nil {
+		return
+	}
+	if back, is := request.Back(known, err); is {
+		_, _ = core.undo(context.Background(), back) // the caller is told why the deed failed
+	}
 }
 
 // made is the key of the volume that a call made, or that has its name.

@@ -74,6 +74,9 @@ type Request struct {
 	Keep func(View, Known, any) ([]store.Text, error)
 	// Failed is what a call gets whose deed failed: nil for 14, and the error's text.
 	Failed func(error) error
+	// Back is a request that undoes, in the same turn, what a deed left that failed: none where it says so. What is known is as before the call. Where that
+	// fails too the store has what may be there.
+	Back func(Known, error) (Request, bool)
 }
 
 // Known is what the store has of a call's volume before that call; where Act is run for a duplicate, with that call.

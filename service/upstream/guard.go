@@ -24,6 +24,7 @@ const nobody = math.MaxUint64
 // A call is one of the eight, as it came.
 type call struct {
 	raw        []byte
+	ctx        context.Context
 	isNumbered bool          // it came with a number
 	asked      proto.Message // what is known of it, once it is read
 }
@@ -75,7 +76,7 @@ func (server *server) guard(method string, stream grpc.ServerStream) error {
 		return err
 	}
 	return server.unary(stream, func(ctx context.Context, raw []byte) (passing.Response, error) {
-		came := &call{raw: raw, isNumbered: numbers.IsIn(ctx)}
+		came := &call{raw: raw, ctx: ctx, isNumbered: numbers.IsIn(ctx)}
 		request, err := read(proxy, came)
 		response := passing.Response{}
 		err = proxy.watched(ctx, method, came.asked, func(ctx context.Context) error {
@@ -120,14 +121,7 @@ func (proxy *Proxy) carry(ctx context.Context, core *serving.Core, method string
 	digest := sha256.Sum256(append([]byte(method), raw...))
 	request.Like = string(digest[:])
 	request.Act = func(acting context.Context, _ serving.Known) (any, error) {
-		response, err := passing.Call(passing.Onward(passing.Waiting(acting, ctx), ctx), proxy.behind, method, raw)
-		if err != nil {
-			if acting.Err() != nil {
-				return nil, status.Error(codes.Unavailable, "the driver ended it")
-			}
-			return nil, err
-		}
-		return response, nil
+		return proxy.call(acting, passing.Onward(passing.Waiting(acting, ctx), ctx), method, raw)
 	}
 	request.Failed = func(err error) error { return err }
 	answer, err := core.Carry(ctx, request)
@@ -140,6 +134,18 @@ func (proxy *Proxy) carry(ctx context.Context, core *serving.Core, method string
 	response, err := responseOf(answer.Acted)
 	response.Trailer = replied(response.Trailer, answer.Reply)
 	return response, err
+}
+
+// call makes a call of the upstream, as a deed, until what is done is to end.
+func (proxy *Proxy) call(acting, onward context.Context, method string, raw []byte) (any, error) {
+	response, err := passing.Call(onward, proxy.behind, method, raw)
+	if err != nil && acting.Err() != nil {
+		return nil, status.Error(codes.Unavailable, "the driver ended it")
+	}
+	if err != nil {
+		return nil, err
+	}
+	return response, nil
 }
 
 // replied is a trailer, which isn't changed, and that the plugin replied, if it did.

@@ -1,11 +1,15 @@
 package upstream
 
 import (
+	"context"
+
+	"github.com/golang/protobuf/proto"
 	"google.golang.org/grpc/codes"
 	"google.golang.org/grpc/status"
 
 	"tufayon/service/frames"
 	"tufayon/service/identities"
+	"tufayon/service/passing"
 	"tufayon/service/records"
 	"tufayon/service/serving"
 	"tufayon/service/store"
@@ -105,7 +109,37 @@ func (proxy *Proxy) publish(call *call) (serving.Request, error) {
 		bound.Bodies = append(bound.Bodies, body)
 		return bound, nil
 	}
+	request.Back = func(known serving.Known, why error) (serving.Request, bool) {
+		row, err := records.ReadStaged(known.Row)
+		if err != nil || row.IsAt(body.Target) || call.isNumbered || !isFinal(why) {
+			return serving.Request{}, false
+		}
+		return proxy.unpublishing(call.ctx, id, asked.GetTargetPath())
+	}
 	return request, fit.err
+}
+
+// isFinal says whether a platform takes an error for the word that nothing was done, so that it undoes nothing: as kubelet does, any but these. By
+// ALREADY_EXISTS something is there, though it isn't what was asked for.
+func isFinal(err error) bool {
+	switch status.Code(err) {
+	case codes.Canceled, codes.DeadlineExceeded, codes.ResourceExhausted, codes.Aborted, codes.Unavailable, codes.AlreadyExists:
+		return false
+	}
+	return true
+}
+
+// unpublishing is a NodeUnpublishVolume that nobody called, with the metadata of a call that came.
+func (proxy *Proxy) unpublishing(came context.Context, id, target string) (serving.Request, bool) {
+	raw, err := proto.Marshal(&wire.NodeUnpublishVolumeRequest{VolumeId: id, TargetPath: target})
+	if err != nil {
+		return serving.Request{}, false
+	}
+	request, err := proxy.unpublish(&call{raw: raw, ctx: came})
+	request.Act = func(acting context.Context, _ serving.Known) (any, error) {
+		return proxy.call(acting, passing.Onward(acting, came), "/csi.v1.Node/NodeUnpublishVolume", raw)
+	}
+	return request, err == nil
 }
 
 // unpublish reads a NodeUnpublishVolume. A volume that was staged with its first publication is unstaged with its last one.

@@ -1,14 +1,17 @@
 package upstream_test
 
 import (
+	"context"
 	"fmt"
 	"strings"
 	"testing"
 
 	"github.com/golang/protobuf/proto"
 	"google.golang.org/grpc/codes"
+	"google.golang.org/grpc/status"
 
 	"tufayon/service/upstream"
+	"tufayon/service/upstream/upstreamtest"
 	"tufayon/service/wire"
 )
 
@@ -87,6 +90,57 @@ func TestOneNode(t *testing.T) {
 		box.does(ctx, publishCall, publishes("v", "/s", fmt.Sprint("/t", at), writer))
 	}
 	box.refuses(ctx, codes.ResourceExhausted, "targets", publishCall, publishes("v", "/s", "/one more", writer))
+}
+
+// By arrival a publication that the upstream refuses for good is undone at once where its target is new, since a platform calls nothing more of it: else the
+// volume couldn't be unstaged any more. One that may be there stays in the ledger, and so does one of who numbers calls.
+func TestRefusedPublication(t *testing.T) {
+	for _, isNumbered := range []bool{false, true} {
+		box, ctx, count := newBox(t, upstream.Options{Node: "n1"}), soon(t), 0
+		box.metadata = isNumbered
+		box.start()
+		next := func() context.Context {
+			if count += 2; isNumbered {
+				return numbered(ctx, fmt.Sprint("1.", count))
+			}
+			return ctx
+		}
+		refused := func(code codes.Code, message proto.Message) {
+			t.Helper()
+			box.behind.Set(func(method string) upstreamtest.Fault {
+				if method == publishCall {
+					return upstreamtest.Fault{Fail: status.Error(code, "it can't be mounted")}
+				}
+				return upstreamtest.Fault{}
+			})
+			_, err := box.ask(next(), publishCall, message)
+			box.wants(err, code, "it can't be mounted")
+			box.behind.Set(nil)
+		}
+		box.does(next(), stageCall, stages("v", "/s", writers))
+		for _, code := range []codes.Code{codes.Unavailable, codes.AlreadyExists} {
+			refused(code, publishes("v", "/s", "/a", writers))
+			box.refuses(next(), codes.FailedPrecondition, "/a", unstageCall, unstages("v", "/s"))
+			box.does(next(), unpublishCall, unpublishes("v", "/a"))
+		}
+		box.does(next(), publishCall, publishes("v", "/s", "/b", writers))
+		refused(codes.Internal, publishes("v", "/s", "/b", writers)) // it was there before
+		box.refuses(next(), codes.FailedPrecondition, "/b", unstageCall, unstages("v", "/s"))
+		box.does(next(), unpublishCall, unpublishes("v", "/b"))
+		refused(codes.Internal, publishes("v", "/s", "/c", writers))
+		if isNumbered {
+			box.refuses(next(), codes.FailedPrecondition, "/c", unstageCall, unstages("v", "/s"))
+			box.does(next(), unpublishCall, unpublishes("v", "/c"))
+		}
+		box.does(next(), unstageCall, unstages("v", "/s"))
+		if told := len(box.behind.Told(unpublishCall)); told != 4 {
+			t.Errorf("the upstream was told %d times to undo", told)
+		}
+		if !isNumbered { // of an upstream that stages nothing the volume isn't staged any more either
+			refused(codes.Internal, publishes("w", "", "/d", writers))
+			box.does(next(), publishCall, publishes("w", "", "/d", single))
+		}
+	}
 }
 
 // An upstream that stages nothing: in the ledger a volume is staged from its first publication to its last one.
