@@ -3,6 +3,7 @@ package daemon
 
 import (
 	"context"
+	"strings"
 	"time"
 
 	systemd "github.com/coreos/go-systemd/daemon"
@@ -20,15 +21,21 @@ func Stopping() { notify(systemd.SdNotifyStopping) }
 // notify tells systemd, if that asked for it. What fails is nobody's fault here.
 func notify(state string) { _, _ = systemd.SdNotify(false, state) }
 
-// line has a text be one line, as a status is.
+// mostStatus is how many bytes of a status are told. systemd takes no notice of a message of more than 4,096, also where it says that a process is ready.
+const mostStatus = 1024
+
+// line has a text be one line, as a status is, and no longer than one may be.
 func line(text string) string {
 	bytes := []byte(text)
+	if len(bytes) > mostStatus {
+		bytes = bytes[:mostStatus]
+	}
 	for at, it := range bytes {
 		if it < ' ' {
 			bytes[at] = ' '
 		}
 	}
-	return string(bytes)
+	return strings.ToValidUTF8(string(bytes), "")
 }
 
 // Watchdog tells systemd that the process is alive as long as it is, where the unit has a watchdog, until the context ends. It gives at once.

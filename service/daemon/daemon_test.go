@@ -95,6 +95,8 @@ func TestNotify(t *testing.T) {
 	next("READY=1\nSTATUS=waits for the store")
 	Status("leads")
 	next("STATUS=leads")
+	Ready("x" + strings.Repeat("\u00e9", 4000)) // as a hook may have failed with
+	next("READY=1\nSTATUS=x" + strings.Repeat("\u00e9", 511))
 	ctx, end := context.WithCancel(context.Background())
 	Watchdog(ctx, func() bool { return true })
 	next("WATCHDOG=1")
