@@ -26,6 +26,7 @@ const (
 	mostNodes    = 64
 	mostSlots    = 4096
 	mostGreatest = 1<<63 - 1
+	mostSocket   = 107 // bytes of the path of a socket (unix(7))
 )
 
 // checking gathers faults, each with its place.
@@ -241,8 +242,11 @@ func (etcd *Etcd) check(to *checking) {
 
 func checkAddress(to *checking, place, address string) {
 	if carrying.IsLocal(address) {
-		if !filepath.IsAbs(strings.TrimPrefix(address, "unix://")) {
+		path := strings.TrimPrefix(address, "unix://")
+		if !filepath.IsAbs(path) {
 			to.refuse(place, "%q has no absolute path", address)
+		} else if len(path) > mostSocket {
+			to.refuse(place, "%q has a path of more than %d bytes", address, mostSocket)
 		}
 		return
 	}

@@ -168,9 +168,10 @@ func (settings *PluginSettings) checkUpstream(to *checking) {
 	}
 }
 
-// isSocket says whether an address is unix://PATH, with an absolute path.
+// isSocket says whether an address is unix://PATH, with an absolute path that a socket can have.
 func isSocket(address string) bool {
-	return carrying.IsLocal(address) && filepath.IsAbs(strings.TrimPrefix(address, "unix://"))
+	path := strings.TrimPrefix(address, "unix://")
+	return carrying.IsLocal(address) && filepath.IsAbs(path) && len(path) <= mostSocket
 }
 
 func (settings *PluginSettings) checkNode(to *checking) {
