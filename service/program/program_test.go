@@ -2,7 +2,12 @@ package program
 
 import (
 	"os"
+	"os/exec"
 	"os/signal"
+	"path/filepath"
+	"regexp"
+	"strconv"
+	"strings"
 	"syscall"
 	"testing"
 	"time"
@@ -26,5 +31,46 @@ func TestSignals(t *testing.T) {
 	hangUp()
 	if len(anew) != 1 || ctx.Err() != nil {
 		t.Errorf("it came %d times to who wants it, and %v", len(anew), ctx.Err())
+	}
+}
+
+const hanging = "TUFAYON_TEST_HANGING" // in the environment of the process that the watchdog ends
+
+// A unit starts a process again that systemd's watchdog ended, by SIGABRT, as one that panics: Go has a status of its own for both.
+func TestUnits(t *testing.T) {
+	if os.Getenv(hanging) != "" {
+		os.Stdout.WriteString("\n")
+		time.Sleep(time.Hour)
+	}
+	process := exec.Command("/proc/self/exe", "-test.run", "^TestUnits$")
+	process.Env = append(os.Environ(), hanging+"=1")
+	said, err := process.StdoutPipe()
+	if err == nil {
+		err = process.Start()
+	}
+	if err != nil {
+		t.Fatal(err)
+	}
+	said.Read(make([]byte, 1)) // it hangs by now
+	process.Process.Signal(syscall.SIGABRT)
+	process.Wait()
+	units, err := filepath.Glob("../../deploy/systemd/*.service")
+	if err != nil || len(units) != 3 {
+		t.Fatalf("the units are %v, %v", units, err)
+	}
+	for _, unit := range units {
+		content, err := os.ReadFile(unit)
+		if err != nil {
+			t.Fatal(err)
+		}
+		found := regexp.MustCompile(`(?m)^RestartPreventExitStatus=(.*)$`).FindSubmatch(content)
+		if found == nil {
+			t.Fatalf("%s starts a process again for ever that has a fault", unit)
+		}
+		for _, status := range strings.Fields(string(found[1])) {
+			if status == strconv.Itoa(process.ProcessState.ExitCode()) {
+				t.Errorf("%s starts no process again that ended with %s, as one does that hangs", unit, status)
+			}
+		}
 	}
 }

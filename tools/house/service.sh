@@ -1,12 +1,12 @@
 # Lays service/ out as Go wants it. Sourced by scripts that have `top`, the repository's folder.
 
 # Copies service/ to $1/src/tufayon/service, with what protoc makes of its protos, and has Go build it there, as service_environment says. What tests of
-# service/ hold against it comes too: deploy/prometheus.
+# service/ hold against it comes too: deploy/prometheus and deploy/systemd.
 service_tree() {
     local tree="$1/src/tufayon/service" as_go=plugins=grpc,paths=source_relative
-    mkdir -p "$tree/wire" "$tree/api/wire" "$1/src/tufayon/deploy/prometheus"
+    mkdir -p "$tree/wire" "$tree/api/wire" "$1/src/tufayon/deploy"
     cp -R "$top/service/." "$tree"
-    cp -R "$top/deploy/prometheus/." "$1/src/tufayon/deploy/prometheus"
+    cp -R "$top/deploy/prometheus" "$top/deploy/systemd" "$1/src/tufayon/deploy"
     (cd "$tree" && protoc "--go_out=$as_go,Mgoogle/protobuf/wrappers.proto=github.com/golang/protobuf/ptypes/wrappers:wire" csi.proto)
     (cd "$tree/api" && protoc "--go_out=$as_go:wire" orchestrator.proto plugin.proto)
     service_environment "$@"
