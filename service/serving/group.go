@@ -167,7 +167,7 @@ func (core *Core) carryOut(jobs []*job) {
 func (core *Core) settle(group *group) {
 	if core.err == nil && len(group.notes) > 0 {
 		notes := append(core.paths.Late(), group.notes...)
-		if err := core.notes.Commit(context.Background(), notes); err != nil {
+		if err := core.timed(func() error { return core.notes.Commit(context.Background(), notes) }); err != nil {
 			core.err = err
 		}
 	}

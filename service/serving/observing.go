@@ -64,12 +64,17 @@ func (core *Core) count() {
 // commit commits what a group changed, and tells how long that took.
 func (core *Core) commit(group *group) error {
 	began := time.Now()
-	atomic.StoreInt64(&core.counts.committing, began.UnixNano())
-	err := core.put(context.Background(), group)
-	atomic.StoreInt64(&core.counts.committing, 0)
+	err := core.timed(func() error { return core.put(context.Background(), group) })
 	core.config.Observer.Committed(time.Since(began), err)
 	core.count()
 	return err
+}
+
+// timed has a commit counted as one that is under way, so that one that hangs is found.
+func (core *Core) timed(commit func() error) error {
+	atomic.StoreInt64(&core.counts.committing, time.Now().UnixNano())
+	defer atomic.StoreInt64(&core.counts.committing, 0)
+	return commit()
 }
 
 // acted does what a request asks for, and tells how long that took. Once what is being done is to end nothing is begun any more, only to be ended at once.

@@ -59,3 +59,37 @@ func TestObserver(t *testing.T) {
 		t.Errorf("it ended by %v", core.Err())
 	}
 }
+
+// slowNotes are notes of which a commit waits.
+type slowNotes struct {
+	beside
+	goesOn chan struct{}
+}
+
+func (notes slowNotes) Commit(ctx context.Context, changes []store.Note) error {
+	<-notes.goesOn
+	return notes.beside.Commit(ctx, changes)
+}
+
+// A commit of notes is counted as one that is under way too, by which one that hangs is found.
+func TestNotesHang(t *testing.T) {
+	kept := newMemory()
+	notes := slowNotes{beside{kept}, make(chan struct{})}
+	core, err := Open(context.Background(), Config{Make: making(10, &faults{}), Store: kept, Notes: opened(notes), Numbering: byMetadata})
+	if err != nil {
+		t.Fatal(err)
+	}
+	defer core.Close()
+	staged := carry(core, numbered(1, 1), stage(1))
+	for until := time.Now().Add(time.Second); core.Counts().Committing == 0; time.Sleep(time.Millisecond) {
+		if time.Now().After(until) {
+			t.Error("it isn't counted")
+			break
+		}
+	}
+	close(notes.goesOn)
+	wantsError(t, staged, codes.OK)
+	if counts := core.Counts(); counts.Committing != 0 {
+		t.Errorf("%+v", counts)
+	}
+}
