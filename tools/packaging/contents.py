@@ -3,11 +3,13 @@ import glob
 import gzip
 import io
 import os
+import re
 import subprocess
 import tarfile
 
 TOP = os.path.dirname(os.path.dirname(os.path.dirname(os.path.realpath(__file__))))
-FORMATS = ("FORMATS", "FRAMES", "RECORDS", "LINES", "DRIVER", "SERVICE")
+with open(f"{TOP}/docs/FORMATS.md", encoding="utf-8") as file:
+    FORMATS = ("FORMATS", *re.findall(r"^\[(\w+)\]\(\1\.md\) \|", file.read(), re.M))  # with the pages that it lists
 EMBED = ("orchestrator.c", "orchestrator.go", "orchestrator.rs", "plugin.c", "plugin.go", "plugin.rs", "store.go", "store.h", "store.rs", "tufayon.rs")
 PARTS = ("orchestrator", "controller", "node")
 
