@@ -426,7 +426,7 @@ def carry(source, path, target, to):
     target(f"echo {packed} | base64 -d | gunzip > {to}")
 
 
-RECOVER = f"""sed '/"set"\\|"staging"\\|"controllers"/d; s/, "address": "[^"]*"//' /etc/tufayon/s1/set.json > config
+RECOVER = f"""tufayon-orchestrator --config /etc/tufayon/s1/orchestrator.json > config
 export ETCD={','.join(f'https://{NETWORK}.{it}:2379' for it in THREE)} OF=/etc/tufayon/s1/etcd-controller
 csi-driver recover --etcd $ETCD --etcd-ca $OF/ca.pem --etcd-cert $OF/cert.pem --etcd-key $OF/key.pem \\
     --prefix /tufayon/s1/controller --new-prefix /tufayon/s1/recovered config 0 stores/*.db"""
