@@ -125,6 +125,10 @@ func (it *asking) ask(host *Host, work *work) error {
 		work.answer(it.waiter, answered{err: it.ctx.Err()})
 		return nil
 	}
+	if it.AtRest && host.waiters.areFull() {
+		work.answer(it.waiter, answered{err: ErrBusy})
+		return nil
+	}
 	before := host.core.row(it.Name)
 	outcome, err := host.core.ask(it.Command)
 	switch refusal := Refusal(outcome.Refusal); {

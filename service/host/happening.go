@@ -195,6 +195,10 @@ func (it *resting) ask(host *Host, work *work) error {
 		return nil
 	}
 	if row.Goal != records.None {
+		if host.waiters.areFull() {
+			work.answer(it.waiter, answered{err: ErrBusy})
+			return nil
+		}
 		host.waiters.add(it.name, it.waiter)
 		return nil
 	}
