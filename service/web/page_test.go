@@ -259,6 +259,7 @@ func TestPage(t *testing.T) {
 	made.soon("it says that it leads", func() error { return says(browser, `document.getElementById('state').textContent`, "leads") })
 	made.keyboard(browser)
 	made.heard(browser)
+	made.waits(browser)
 	for _, fault := range browser.Faults() {
 		if !isOfRestart(fault) {
 			t.Error(fault)
@@ -303,6 +304,20 @@ func (made *scene) heard(browser *webtest.Browser) {
 		if !heard[role+" "+names] && (names != "" || !heard[role]) {
 			made.Errorf("who doesn't see it isn't told of a %s %s", role, names)
 		}
+	}
+}
+
+// waits has the service wait to lead, as one that has lost the lease does once it is started again: then it has no session.
+func (made *scene) waits(browser *webtest.Browser) {
+	made.Helper()
+	leads := made.present()
+	made.mutex.Lock()
+	made.leads = nil
+	made.mutex.Unlock()
+	leads.Close()
+	made.soon("it says that it waits", func() error { return says(browser, `document.getElementById('state').textContent`, "waits to lead") })
+	if err := says(browser, `document.getElementById('session').textContent`, "–"); err != nil {
+		made.Errorf("its session: %v", err)
 	}
 }
 

@@ -53,6 +53,7 @@ const handlers = {
     by('set').textContent = it.set
     document.title = it.set + ' · Tufayon'
     by('leader').textContent = by('leader').title = it.leader || '–'
+    by('session').textContent = '–' // of a service that leads it comes now
     by('event-list').replaceChildren()
   },
   volumes(list) { for (const it of list) volumes.set(it.name, it) },
