@@ -10,6 +10,7 @@ import (
 	"path/filepath"
 	"strings"
 	"sync/atomic"
+	"syscall"
 	"testing"
 	"time"
 
@@ -97,6 +98,9 @@ func TestProcess(t *testing.T) {
 	for at := 0; at < MostTogether; at++ {
 		asked = append(asked, bytes.Repeat([]byte("x"), 4000))
 	}
+	if pid := running.(*process).command.Process.Pid; !leads(pid) {
+		t.Error("a terminal interrupts it beside its host")
+	}
 	answers, err := running.Answers(asked)
 	if err != nil || len(answers) != len(asked) || len(answers[63].Name) != 4000 {
 		t.Errorf("%d answers, %v", len(answers), err)
@@ -107,6 +111,12 @@ func TestProcess(t *testing.T) {
 	if _, err := running.Answers(asked[:1]); !errors.Is(err, ErrOrchestrator) {
 		t.Errorf("a program that ended: %v", err)
 	}
+}
+
+// leads says whether a process has a group of its own.
+func leads(pid int) bool {
+	group, err := syscall.Getpgid(pid)
+	return err == nil && group == pid
 }
 
 // A driver that hangs up is sought again and again, but no more than ten times in the first half of a second.

@@ -6,6 +6,7 @@ import (
 	"io"
 	"os"
 	"os/exec"
+	"syscall"
 )
 
 // process is an orchestrator that runs beside this program.
@@ -19,6 +20,7 @@ type process struct {
 func Run(words ...string) (Orchestrator, Answer, error) {
 	running := &process{command: exec.Command(words[0], words[1:]...)}
 	running.command.Stderr = os.Stderr
+	running.command.SysProcAttr = &syscall.SysProcAttr{Setpgid: true} // a terminal's interrupt is the host's, which ends it in order
 	input, err := running.command.StdinPipe()
 	if err != nil {
 		return nil, Answer{}, fmt.Errorf("%w: %v", ErrOrchestrator, err)
