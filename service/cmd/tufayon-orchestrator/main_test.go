@@ -17,6 +17,8 @@ import (
 	"tufayon/service/api"
 	"tufayon/service/api/wire"
 	"tufayon/service/carrying/carryingtest"
+	"tufayon/service/host"
+	"tufayon/service/host/hosttest"
 	"tufayon/service/program"
 	"tufayon/service/secure"
 	"tufayon/service/settings"
@@ -183,6 +185,44 @@ func TestEndedBeforeItLeads(t *testing.T) {
 	}
 	if err := kept.Close(); err != nil {
 		t.Error(err)
+	}
+}
+
+// Another list of nodes is taken also while as many commands wait as may, once there are fewer.
+func TestListedWhileBusy(t *testing.T) {
+	ctx, cancel := context.WithTimeout(context.Background(), within)
+	defer cancel()
+	made, kept := newFiles(t), hosttest.NewStore()
+	made.list("n1")
+	read, err := settings.Read(made.path(made.process))
+	if err != nil {
+		t.Fatal(err)
+	}
+	running := &service{settings: read, log: zap.NewNop()}
+	if err := running.connect(); err != nil {
+		t.Fatal(err)
+	}
+	defer running.carrier.Close()
+	running.host, err = host.Open(ctx, host.Options{Store: kept, Nodes: read.Set.IDs(), Carrier: &hosttest.Carrier{}, Log: zap.NewNop()})
+	if err != nil {
+		t.Fatal(err)
+	}
+	defer running.host.Close()
+	made.list("n1", "n2")
+	if read, err = settings.Read(made.path(made.process)); err != nil {
+		t.Fatal(err)
+	}
+	letGo := kept.Hold()
+	for at := 0; at < 1200; at++ { // a thousand may wait
+		go running.host.Do(ctx, host.Command{Kind: host.Delete, Name: "v"})
+		go running.host.Do(ctx, host.Command{Kind: host.Create, Name: "v"})
+	}
+	for running.host.Counts().Waiting < 1000 && ctx.Err() == nil {
+		time.Sleep(time.Millisecond)
+	}
+	time.AfterFunc(100*time.Millisecond, letGo)
+	if err := running.follow(ctx, read); err != nil || len(running.host.Nodes()) != 2 {
+		t.Errorf("it lists %v, %v", running.host.Nodes(), err)
 	}
 }
 

@@ -2,6 +2,7 @@ package main
 
 import (
 	"context"
+	"errors"
 	"fmt"
 	"net"
 	"os"
@@ -28,6 +29,8 @@ import (
 const (
 	reach  = 10 * time.Second // how long a node may take to say which one it is
 	finish = 10 * time.Second // how long calls that are under way may take, once the process is to end
+
+	busy = 20 * time.Millisecond // until it is looked once more whether fewer commands wait
 )
 
 // service is what runs.
@@ -266,12 +269,29 @@ func (running *service) follow(ctx context.Context, read *settings.Settings) err
 		return err
 	}
 	if running.host != nil && !same(read.Set.IDs(), running.host.Nodes()) {
-		if _, err := running.host.Begin(ctx, read.Set.IDs(), "the list of nodes is another one"); err != nil {
+		if err := running.list(ctx, read.Set.IDs()); err != nil {
 			running.carrier.Set(running.settings.Set.Addresses())
 			return settings.Faults{fmt.Sprintf("%s: nodes: %v", read.Process.Place.Set, err)}
 		}
 	}
 	return running.carrier.Set(read.Set.Addresses())
+}
+
+// list has the orchestrator begin a session with other nodes, also while very many commands wait: nobody would ask for it again.
+func (running *service) list(ctx context.Context, nodes []string) error {
+	for {
+		_, err := running.host.Begin(ctx, nodes, "the list of nodes is another one")
+		if !errors.Is(err, host.ErrBusy) {
+			return err
+		}
+		select {
+		case <-time.After(busy):
+		case <-running.host.Done():
+			return host.ErrEnded
+		case <-ctx.Done():
+			return ctx.Err()
+		}
+	}
 }
 
 // stays says what isn't changed without a restart of the process.
