@@ -81,11 +81,11 @@ func (files Files) CheckOwn() (until time.Time, err error) {
 	return leaf.NotAfter, nil
 }
 
-// endOf is when the first of these certificates ends.
+// endOf is when the first of these certificates ends, but for those behind the peer's own that have ended: it was believed without them.
 func endOf(chain []*x509.Certificate) time.Time {
-	end := chain[0].NotAfter
+	end, now := chain[0].NotAfter, time.Now()
 	for _, it := range chain[1:] {
-		if it.NotAfter.Before(end) {
+		if it.NotAfter.Before(end) && it.NotAfter.After(now) {
 			end = it.NotAfter
 		}
 	}

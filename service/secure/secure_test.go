@@ -249,6 +249,27 @@ func TestCheck(t *testing.T) {
 	}
 }
 
+// A certificate that has ended, and stands behind a peer's own as an old authority's may, ends no connection: it isn't needed.
+func TestEndedBehind(t *testing.T) {
+	authority := securetest.NewAuthority(t)
+	files := authority.Issue(t, t.TempDir(), later(), n1)
+	old := authority.Issue(t, t.TempDir(), time.Now().Add(-time.Minute), "tufayon://s1/controller")
+	content, err := os.ReadFile(files.Certificate)
+	if err != nil {
+		t.Fatal(err)
+	}
+	behind, err := os.ReadFile(old.Certificate)
+	if err == nil {
+		err = os.WriteFile(files.Certificate, append(content, behind...), 0o600)
+	}
+	if err != nil {
+		t.Fatal(err)
+	}
+	if until, err := files.Check(name(t, n1)); err != nil || until.Before(time.Now()) {
+		t.Errorf("it is valid until %v, %v", until, err)
+	}
+}
+
 // At a Unix socket each end refuses a user that may not be there.
 func TestLocal(t *testing.T) {
 	own := uint32(os.Geteuid())
