@@ -11,6 +11,8 @@ import (
 	"strings"
 	"syscall"
 	"time"
+
+	"golang.org/x/sys/unix"
 )
 
 // Commands runs a command for each of these calls, by CSI's name of the call, and leaves the others to Rest. What is to be done stands in the
@@ -101,6 +103,7 @@ func (run running) run(ctx context.Context) ([]byte, error) {
 		return nil, fmt.Errorf("%s: %w", run.command, err)
 	}
 	run.lock.write(command.Process.Pid)
+	defer trimming(output, faults)()
 	go func() {
 		writes.Write(run.deed.Input())
 		writes.Close()
@@ -129,6 +132,44 @@ func (run running) await(ctx context.Context, command *exec.Cmd) error {
 	case <-time.After(afterKill): // it is in the kernel: its lock tells that it is there still
 	}
 	return ctx.Err()
+}
+
+// trimAgain is how long a command may write until the room is given back that what it wrote takes.
+const trimAgain = 200 * time.Millisecond
+
+// trimming has files trimmed again and again, until what it gives is called: a command that writes without an end, as one that asks somebody who isn't there,
+// doesn't fill the disk.
+func trimming(files ...*os.File) (end func()) {
+	stop, stopped := make(chan struct{}), make(chan struct{})
+	go func() {
+		defer close(stopped)
+		again := time.NewTicker(trimAgain)
+		defer again.Stop()
+		for {
+			select {
+			case <-again.C:
+				for _, it := range files {
+					trim(it)
+				}
+			case <-stop:
+				return
+			}
+		}
+	}()
+	return func() {
+		close(stop)
+		<-stopped
+	}
+}
+
+// trim gives back the room of a file between its first bytes and its last ones, which alone are read. Its place, which a command shares, stays as it is.
+func trim(file *os.File) {
+	status, err := file.Stat()
+	if err != nil || status.Size() <= 4*mostOutput {
+		return
+	}
+	const how = unix.FALLOC_FL_PUNCH_HOLE | unix.FALLOC_FL_KEEP_SIZE
+	_ = unix.Fallocate(int(file.Fd()), how, mostOutput, status.Size()-2*mostOutput) // some file systems can't
 }
 
 // fault is what a command that failed said last, without what is private.

@@ -127,6 +127,48 @@ func TestFailingWithLongLine(t *testing.T) {
 	}
 }
 
+// A command that writes without an end takes little room, whatever it writes to, and its last line is told.
+func TestMuchOutput(t *testing.T) {
+	const many = 20000000
+	commands := newPlace(t).commands(fmt.Sprintf(`head -c %d /dev/zero; head -c %d /dev/zero >&2; echo >&2; echo "the end" >&2; sleep 1; exit 1`, many, many), time.Minute)
+	ended := make(chan error, 1)
+	go func() {
+		_, err := commands.Do(context.Background(), stage)
+		ended <- err
+	}()
+	least := int64(2 * many)
+	for hasEnded := false; !hasEnded; time.Sleep(10 * time.Millisecond) {
+		if size, room := scratched(); size >= 2*many && room < least {
+			least = room
+		}
+		select {
+		case err := <-ended:
+			if hasEnded = true; err == nil || err.Error() != "the end" {
+				t.Errorf("it ended by %.40v", err)
+			}
+		default:
+		}
+	}
+	if least > 1<<20 {
+		t.Errorf("what it wrote took %d bytes", least)
+	}
+}
+
+// scratched is how many bytes the files have that a command of this process writes to, and how many of a disk they take.
+func scratched() (size, room int64) {
+	open, _ := filepath.Glob("/proc/self/fd/*")
+	for _, it := range open {
+		if name, err := os.Readlink(it); err != nil || !strings.HasPrefix(filepath.Base(name), "hook") || !strings.HasSuffix(name, " (deleted)") {
+			continue
+		}
+		if status, err := os.Stat(it); err == nil {
+			size += status.Size()
+			room += status.Sys().(*syscall.Stat_t).Blocks * 512
+		}
+	}
+	return size, room
+}
+
 // A secret of several lines, or with an end of the line that a shell takes away, isn't told either, whichever line of it is the last one.
 func TestFailingWithLines(t *testing.T) {
 	deed := stage
