@@ -22,6 +22,7 @@ func isLoopback(endpoint string) bool {
 	if err != nil {
 		return false
 	}
-	address := net.ParseIP(parsed.Hostname())
-	return address != nil && address.IsLoopback()
+	host := parsed.Hostname()
+	address := net.ParseIP(host)
+	return host == "localhost" || address != nil && address.IsLoopback()
 }

@@ -91,7 +91,7 @@ func TestFaults(t *testing.T) {
 			"set.json: controllers[1]: they are all at Unix sockets, or none", `set.json: controllers[2]: "unix:///run/c.sock" is that of controllers[0] too`,
 			`set.json: nodes[1].address: "unix:///run/n2.sock" is that of controllers[3] too`, "set.json: controllers[1]: over TCP",
 		}},
-		{set, `{"set": "set.json", "listen": ":7101", "etcd": {"endpoints": ["http://127.0.0.1:2379"], "prefix": "p", "lease": 1}, "certificate": "c", "key": "k", "authorities": "a"}`,
+		{set, `{"set": "set.json", "listen": ":7101", "etcd": {"endpoints": ["http://127.0.0.1:2379", "http://localhost:2379"], "prefix": "p", "lease": 1}, "certificate": "c", "key": "k", "authorities": "a"}`,
 			[]string{`process.json: address: ":7101" is neither`}},
 		{set, `{"set": "set.json", "store": "s", "listen": "unix:///o", "watch": "10.0.0.1:9480", "log": "loud"}`, []string{
 			`process.json: watch: "10.0.0.1:9480" isn't on loopback`, `process.json: log: "loud" is none of debug, info, warn, error`,
