@@ -9,7 +9,7 @@ ghost use Rattle.csi_json.specs.Public.Events.{restart_controller_of, restart_or
 use crate::access::{capabilities_at, capability};
 use crate::configs::config;
 use crate::lists::read_ids;
-use crate::texts::{name, name_at, node_id, node_id_at, target_at};
+use crate::texts::{name, node_id, target_at};
 use crate::values::{
     Flaw, flag_at, list, member, number, number_at, only_member, sized_object, text,
 };
@@ -22,7 +22,7 @@ fn create_event(alloc: Global, value: &Value) -> Result<Event, Flaw>
     ensures { Reads (λ event. event) result (create_of (view value.now)) }
 {
     let object = sized_object(value, 4)?;
-    let name = name_at(alloc, object, "name")?;
+    let name = name(alloc, member(object, "name")?)?;
     let required = number_at(object, "required")?;
     let limit = number_at(object, "limit")?;
     let capabilities = capabilities_at(alloc, object, "capabilities")?;
@@ -39,8 +39,8 @@ fn use_event(alloc: Global, value: &Value) -> Result<Event, Flaw>
     ensures { Reads (λ event. event) result (use_of (view value.now)) }
 {
     let object = sized_object(value, 5)?;
-    let name = name_at(alloc, object, "name")?;
-    let node = node_id_at(alloc, object, "node")?;
+    let name = name(alloc, member(object, "name")?)?;
+    let node = node_id(alloc, member(object, "node")?)?;
     let target = target_at(alloc, object, "target")?;
     let capability = capability(alloc, member(object, "capability")?)?;
     let readonly = flag_at(object, "readonly")?;
@@ -58,8 +58,8 @@ fn stop_event(alloc: Global, value: &Value) -> Result<Event, Flaw>
     ensures { Reads (λ event. event) result (stop_of (view value.now)) }
 {
     let object = sized_object(value, 3)?;
-    let name = name_at(alloc, object, "name")?;
-    let node = node_id_at(alloc, object, "node")?;
+    let name = name(alloc, member(object, "name")?)?;
+    let node = node_id(alloc, member(object, "node")?)?;
     let target = target_at(alloc, object, "target")?;
     Ok(Event::Stop { name, node, target })
 }

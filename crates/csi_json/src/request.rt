@@ -4,7 +4,7 @@ ghost use Rattle.serde_json.specs.Read.{read};
 ghost use Rattle.serde_json.specs.View.{view};
 ghost use Rattle.csi_json.specs.Private.Json.{Reads};
 ghost use Rattle.csi_json.specs.Public.Json.{only_member as sole};
-ghost use Rattle.csi_json.specs.Public.Requests.{request_shown, is_command_key, bytes_of, request_at as at_key, request_of, request_read};
+ghost use Rattle.csi_json.specs.Public.Requests.{request_shown, bytes_of, request_at as at_key, request_of, request_read};
 ghost use Rattle.csi_json.specs.Public.Requests.{line_request, IsAsked, IsRequestFault};
 
 use crate::events::event_at;
@@ -22,16 +22,6 @@ pub enum Request {
     Command(Event),
     /// To take these bytes, a frame that came. Whether they are a frame isn't judged yet.
     Reply(Vec<u8>),
-}
-
-// Whether this is the key of a command, a timeout or a loss.
-fn is_command(key: &str) -> bool
-    ensures { result ≡ is_command_key key.now }
-{
-    matches!(
-        key,
-        "create" | "use" | "stop" | "delete" | "timeout" | "lose"
-    )
 }
 
 // The bytes that a value says.
@@ -55,7 +45,11 @@ fn request_at(alloc: Global, key: &str, value: &Value) -> Result<Request, Reques
             Err(Flaw::Bad) => Err(RequestFault::BadFrame),
         };
     }
-    if !is_command(key) {
+    let is_command = matches!(
+        key,
+        "create" | "use" | "stop" | "delete" | "timeout" | "lose"
+    );
+    if !is_command {
         return Err(RequestFault::BadLine);
     }
     match event_at(alloc, key, value) {

@@ -24,13 +24,6 @@ pub fn name(alloc: Global, value: &Value) -> Result<Name, Flaw>
     }
 }
 
-/// The volume's name at a key of an object.
-pub fn name_at(alloc: Global, object: &Value, key: &str) -> Result<Name, Flaw>
-    ensures { Reads (λ name. name) result (option_and_then name_of (get key.now (view object.now))) }
-{
-    name(alloc, member(object, key)?)
-}
-
 /// A node's id.
 #[tactic(auto, unfolding(crate::specs::Public::Json::text_of))]
 pub fn node_id(alloc: Global, value: &Value) -> Result<NodeId, Flaw>
@@ -43,13 +36,6 @@ pub fn node_id(alloc: Global, value: &Value) -> Result<NodeId, Flaw>
         Err(TextFault::NoMemory) => Err(Flaw::NoMemory),
         Err(TextFault::Empty | TextFault::TooLong) => Err(Flaw::Bad),
     }
-}
-
-/// The node's id at a key of an object.
-pub fn node_id_at(alloc: Global, object: &Value, key: &str) -> Result<NodeId, Flaw>
-    ensures { Reads (λ id. id) result (option_and_then node_id_of (get key.now (view object.now))) }
-{
-    node_id(alloc, member(object, key)?)
 }
 
 /// The target at a key of an object.

@@ -216,21 +216,13 @@ impl OrchestratorResponder {
         loss_told(self.alloc, node, told, session)
     }
 
-    // A command of a line.
-    fn carry_out(&mut self, event: Event) -> Result<String, Unanswered>
-        ensures told { IfOk result (λ text. IsTold (AnswersEvent event) self.old (string_bytes text) self.new) }
-        ensures never { result ≡ Err Unanswered.OlderStore → ⊥ }
-    {
-        Ok(self.command(event)?)
-    }
-
     // The answer to a line.
     fn answer(&mut self, line: &[u8]) -> Result<String, Unanswered>
         ensures told { IfOk result (λ text. IsTold (AnswersLine line.now) self.old (string_bytes text) self.new) }
         ensures older { result ≡ Err Unanswered.OlderStore → IsToldStaleIn line.now self.old.service }
     {
         match read_request(self.alloc, line) {
-            Ok(Request::Command(event)) => self.carry_out(event),
+            Ok(Request::Command(event)) => Ok(self.command(event)?),
             Ok(Request::Reply(bytes)) => self.reply(&bytes),
             Err(fault) => match fault {
                 RequestFault::NoMemory => Err(Unanswered::NoMemory),

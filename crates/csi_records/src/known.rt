@@ -4,7 +4,7 @@ ghost use Rattle.csi_types.specs.Public.Text.{IsNodeId, IsTarget};
 ghost use Rattle.csi_types.specs.Public.VolumeId.{IsVolumeId};
 ghost use Rattle.csi_frames.specs.Public.Spelling.{text};
 ghost use Rattle.csi_records.specs.Public.Spelling.{present};
-ghost use Rattle.csi_records.specs.Public.OrchestratorSpelling.{known_byte as byte_of, known_bytes, arguments_bytes, id_bytes, usage_bytes, goal_bytes};
+ghost use Rattle.csi_records.specs.Public.OrchestratorSpelling.{known_bytes, arguments_bytes, id_bytes, usage_bytes, goal_bytes};
 ghost use Rattle.csi_records.specs.Public.OrchestratorRows.{AreArguments, IsUsage, IsGoal};
 
 use crate::items::{Item, put_list};
@@ -12,22 +12,17 @@ use csi_frames::{append_byte, append_flag, append_node_id, append_target, append
 use csi_orchestrator::{Arguments, Goal, Known, Usage};
 use csi_types::{NoMemory, NodeId, Target, VolumeId};
 
-// The byte of what is known.
-fn known_byte(known: Known) -> u8
-    ensures { result ≡ byte_of known }
-{
-    match known {
-        Known::No => 0,
-        Known::Yes => 1,
-        Known::Maybe => 2,
-    }
-}
-
 /// What is known.
+#[tactic(auto, unfolding(crate::specs::Public::OrchestratorSpelling::known_byte))]
 pub(crate) fn put_known(out: &mut Vec<u8>, known: Known) -> Result<(), NoMemory>
     ensures { OnOk result (out.new.items ≡ out.old.items ++ known_bytes known) }
 {
-    append_byte(out, known_byte(known))
+    let byte = match known {
+        Known::No => 0,
+        Known::Yes => 1,
+        Known::Maybe => 2,
+    };
+    append_byte(out, byte)
 }
 
 /// An id, if there is one.

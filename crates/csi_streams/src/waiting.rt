@@ -53,20 +53,7 @@ impl Waiting {
         }
     }
 
-    // Nothing waits any more.
-    fn empty(&mut self)
-        ensures out { self.new.out.items ≡ [] }
-        ensures parts { self.new.parts.items ≡ [] }
-        ensures items { self.new.items ≡ 0 }
-        ensures committed { self.new.committed ≡ self.old.committed }
-        ensures answers { self.new.answers ≡ self.old.answers }
-    {
-        self.out.clear();
-        self.parts.clear();
-        self.items = 0;
-    }
-
-    // Counts the items that wait as committed, and writes their answers. It is inlined, so that a call that changes nothing costs no call more.
+    // Counts the items that wait as committed, and writes their answers; then nothing waits any more. It is inlined, so that a call that changes nothing costs no call more.
     #[inline(always)]
     fn write_answers<W: Write>(&mut self, writer: &mut Counted<W>) -> Result<(), AnswerFault>
         ensures committed { IsCountedOn self.old self.new }
@@ -83,7 +70,9 @@ impl Waiting {
         self.committed = self.committed.saturating_add(self.items);
         match write_out(writer, &self.out) {
             Ok(()) => {
-                self.empty();
+                self.out.clear();
+                self.parts.clear();
+                self.items = 0;
                 Ok(())
             }
             Err(WriteFailed) => Err(AnswerFault::Output),
