@@ -381,3 +381,24 @@ func TestKilledDriverWithDaemon(t *testing.T) {
 	}
 	syscall.Kill(id, syscall.SIGKILL)
 }
+
+// What nobody waits for is waited for, but not before who may wait for it has had the time to.
+func TestReap(t *testing.T) {
+	id, err := syscall.ForkExec("/bin/true", []string{"true"}, nil)
+	if err != nil {
+		t.Fatal(err)
+	}
+	isThere := func() bool { return isEndedChild(fmt.Sprint("/proc/", id)) }
+	for until := time.Now().Add(10 * time.Second); !isThere(); time.Sleep(time.Millisecond) {
+		if time.Now().After(until) {
+			t.Fatal("it doesn't end")
+		}
+	}
+	ended := reap(nil)
+	if !ended[id] || !isThere() {
+		t.Errorf("it was waited for at once, of %v", ended)
+	}
+	if ended = reap(ended); ended[id] || isThere() {
+		t.Errorf("nobody waited for it, of %v", ended)
+	}
+}

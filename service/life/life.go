@@ -113,6 +113,7 @@ func (life *Life) Run(ctx context.Context) error {
 	telling, told := context.WithCancel(context.Background())
 	defer told()
 	go life.tellTroubles(telling)
+	hooks.Reap(telling)
 	ends, ended := make(chan error, 1), make(chan error, 1)
 	go func() {
 		err := life.live(ctx)
