@@ -135,7 +135,7 @@ func (run running) await(ctx context.Context, command *exec.Cmd) error {
 }
 
 // trimAgain is how long a command may write until the room is given back that what it wrote takes.
-const trimAgain = 200 * time.Millisecond
+const trimAgain = 500 * time.Millisecond
 
 // trimming has files trimmed again and again, until what it gives is called: a command that writes without an end, as one that asks somebody who isn't there,
 // doesn't fill the disk.
