@@ -41,7 +41,7 @@ func (carrier *Carrier) Begin(ctx context.Context, name string, opening numbers.
 }
 
 func (carrier *Carrier) begin(ctx context.Context, plugin *plugin, request *told.BeginRequest) (isSent bool, err error) {
-	over, release, err := plugin.turn(ctx, time.Time{}, carrier.limits.Reach)
+	over, release, err := plugin.turn(ctx, time.Time{})
 	if err != nil {
 		return false, err
 	}

@@ -105,7 +105,7 @@ func (carrier *Carrier) Set(addresses map[string]string) error {
 		if name == Controller {
 			limit = carrier.limits.AtController
 		}
-		it, err := newPlugin(name, address, limit, carrier.dial, carrier.heardOf)
+		it, err := newPlugin(name, address, limit, carrier.limits.Reach, carrier.dial, carrier.heardOf)
 		if err != nil {
 			for _, it := range made {
 				it.close()
@@ -156,7 +156,7 @@ func (carrier *Carrier) Carry(ctx context.Context, call frames.Call, until time.
 
 // carry makes a call over the connection of the plugin's turn. Where that has ended meanwhile, nothing is sent.
 func (carrier *Carrier) carry(ctx context.Context, plugin *plugin, call frames.Call, method translate.Method, until time.Time) (frames.Reply, bool, error) {
-	over, release, err := plugin.turn(ctx, until, carrier.limits.Reach)
+	over, release, err := plugin.turn(ctx, until)
 	if err != nil {
 		return frames.Reply{}, false, err
 	}

@@ -401,3 +401,27 @@ func TestConfirms(t *testing.T) {
 		}
 	}
 }
+
+// Another node at a node's address isn't listened to, and isn't told which call that one acknowledged last: it would take that for its own.
+func TestAnotherIsToldNothing(t *testing.T) {
+	told := make(chan frames.Number, 9)
+	other := &carryingtest.Plugin{Node: "n2", Troubles: make(chan string, 1), Confirms: func(heard frames.Number) error {
+		told <- heard
+		return nil
+	}}
+	other.Troubles <- "volume 1 isn't mounted"
+	other.Serve(t, socket(t, "n2"), nil)
+	carrier := carry(t, carrying.Peers{}, carrying.Limits{}, map[string]string{"node:n1": other.Address})
+	carrier.Leads(func(string) (frames.Number, bool) { return frames.Number{Session: 4, Call: 7}, true })
+	for end := time.Now().Add(within); carrier.States()["node:n1"].Connection != "READY" && time.Now().Before(end); {
+		time.Sleep(time.Millisecond)
+	}
+	select {
+	case heard := <-told:
+		t.Errorf("it is told %v", heard)
+	case <-time.After(300 * time.Millisecond):
+	}
+	if state := carrier.States()["node:n1"]; state.Amiss != "" || carrier.Unmounted("n1", 1) != "" || state.Trouble != `another plugin is there: "n2"` {
+		t.Errorf("it is %+v", state)
+	}
+}

@@ -22,6 +22,7 @@ type plugin struct {
 	places        chan struct{} // has as many as calls are under way
 	closed        chan struct{}
 	heard         Heard
+	reach         time.Duration // how long it may take to say which node it is
 
 	mutex   sync.Mutex
 	queued  int
@@ -33,8 +34,8 @@ type plugin struct {
 	unmounted map[uint64]string
 }
 
-func newPlugin(name, address string, limit int, dial Dial, heard Heard) (*plugin, error) {
-	made := &plugin{name: name, address: address, heard: heard, places: make(chan struct{}, limit), closed: make(chan struct{})}
+func newPlugin(name, address string, limit int, reach time.Duration, dial Dial, heard Heard) (*plugin, error) {
+	made := &plugin{name: name, address: address, heard: heard, reach: reach, places: make(chan struct{}, limit), closed: make(chan struct{})}
 	connection, err := dial(name, address, made.connects)
 	made.connection = connection
 	if err == nil && name != Controller {
@@ -58,7 +59,7 @@ func (plugin *plugin) close() {
 
 // turn waits until the plugin is reached and has a place for a call, which is to be given back, and says over which connection the call is to be made. Where
 // a time is given, it fails once that is over and the plugin isn't reached; how long a call waits for its place doesn't count.
-func (plugin *plugin) turn(ctx context.Context, until time.Time, reach time.Duration) (by *over, release func(), err error) {
+func (plugin *plugin) turn(ctx context.Context, until time.Time) (by *over, release func(), err error) {
 	plugin.queue(1)
 	defer plugin.queue(-1)
 	reached := ctx
@@ -83,7 +84,7 @@ func (plugin *plugin) turn(ctx context.Context, until time.Time, reach time.Dura
 			release()
 			continue
 		}
-		by, err := plugin.identify(ctx, reach)
+		by, err := plugin.identify(ctx)
 		if err == nil {
 			return by, release, nil
 		}
@@ -129,7 +130,7 @@ func (plugin *plugin) unreached(ctx context.Context, err error) error {
 }
 
 // identify asks a node which one it is, once for each connection: CSI's requests name no node, so one at another's address would carry them out.
-func (plugin *plugin) identify(ctx context.Context, reach time.Duration) (*over, error) {
+func (plugin *plugin) identify(ctx context.Context) (*over, error) {
 	plugin.mutex.Lock()
 	by := &over{number: plugin.last}
 	isKnown := plugin.last > 0 && plugin.known == plugin.last
@@ -143,7 +144,7 @@ func (plugin *plugin) identify(ctx context.Context, reach time.Duration) (*over,
 	if isKnown {
 		return by, nil
 	}
-	ctx, cancel := context.WithTimeout(ctx, reach)
+	ctx, cancel := context.WithTimeout(ctx, plugin.reach)
 	defer cancel()
 	told, err := wire.NewNodeClient(plugin.connection).NodeGetInfo(ctx, &wire.NodeGetInfoRequest{}, grpc.PerRPCCredentials(by))
 	if err != nil {

@@ -6,6 +6,7 @@ import (
 	"sync"
 	"time"
 
+	"google.golang.org/grpc"
 	"google.golang.org/grpc/codes"
 	"google.golang.org/grpc/connectivity"
 	"google.golang.org/grpc/status"
@@ -13,7 +14,8 @@ import (
 	told "tufayon/service/api/wire"
 )
 
-// listen keeps what a node says that isn't as its record has it, while it is reached, until the plugin is closed. Calls are made at it all the same.
+// listen keeps what a node says that isn't as its record has it, while it is reached, until the plugin is closed. Calls are made at it all the same. Another
+// node isn't listened to, and is told nothing.
 func (plugin *plugin) listen() {
 	ctx, cancel := context.WithCancel(context.Background())
 	defer cancel()
@@ -30,8 +32,11 @@ func (plugin *plugin) listen() {
 			plugin.connection.WaitForStateChange(ctx, state)
 			continue
 		}
-		err := plugin.hear(ctx)
-		plugin.says(&told.TroublesResponse{})
+		by, err := plugin.identify(ctx)
+		if err == nil {
+			err = plugin.hear(ctx, by)
+			plugin.says(&told.TroublesResponse{})
+		}
 		if status.Code(err) == codes.Unimplemented { // an earlier version, or another plugin
 			plugin.connection.WaitForStateChange(ctx, connectivity.Ready)
 			continue
@@ -43,18 +48,18 @@ func (plugin *plugin) listen() {
 	}
 }
 
-// hear keeps what a node says until the stream ends.
-func (plugin *plugin) hear(ctx context.Context) error {
+// hear keeps what a node says over a connection until the stream ends.
+func (plugin *plugin) hear(ctx context.Context, by *over) error {
 	ctx, cancel := context.WithCancel(ctx)
 	defer cancel()
 	var asked sync.Once
-	stream, err := told.NewPluginClient(plugin.connection).Troubles(ctx, &told.TroublesRequest{})
+	stream, err := told.NewPluginClient(plugin.connection).Troubles(ctx, &told.TroublesRequest{}, grpc.PerRPCCredentials(by))
 	for err == nil {
 		var response *told.TroublesResponse
 		if response, err = stream.Recv(); err == nil {
 			plugin.says(response)
 			if response.Asks {
-				asked.Do(func() { go plugin.confirm(ctx) })
+				asked.Do(func() { go plugin.confirm(ctx, by) })
 			}
 		}
 	}
@@ -65,10 +70,10 @@ func (plugin *plugin) hear(ctx context.Context) error {
 }
 
 // confirm tells a node that asks for it which call was acknowledged last that it heard, once this process knows that.
-func (plugin *plugin) confirm(ctx context.Context) {
+func (plugin *plugin) confirm(ctx context.Context, by *over) {
 	for {
 		if heard, isKnown := plugin.heard(plugin.name); isKnown {
-			_, err := told.NewPluginClient(plugin.connection).Confirm(ctx, &told.ConfirmRequest{Heard: numberOf(heard)})
+			_, err := told.NewPluginClient(plugin.connection).Confirm(ctx, &told.ConfirmRequest{Heard: numberOf(heard)}, grpc.PerRPCCredentials(by))
 			if err == nil || ctx.Err() != nil {
 				return
 			}
