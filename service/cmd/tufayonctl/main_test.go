@@ -9,6 +9,7 @@ import (
 	"reflect"
 	"sort"
 	"strings"
+	"sync"
 	"sync/atomic"
 	"syscall"
 	"testing"
@@ -114,6 +115,79 @@ func TestWords(t *testing.T) {
 	says(t, address, "lose|n1", 2, `--promise "off for good, and its store never comes back"`)
 	says(t, address, "lose|n1|--promise|"+terms.Promise, 0, "n1 is lost", "session 3")
 	says(t, address, "watch|--current|--timeout|50ms", 3, "DeadlineExceeded")
+}
+
+// serveAt serves an orchestrator over a store at a path, until what it gives is called.
+func serveAt(t *testing.T, path string, kept *hosttest.Store) (made *host.Host, end func()) {
+	t.Helper()
+	made, err := host.Open(context.Background(), host.Options{Store: kept, Carrier: &hosttest.Carrier{}, Log: zap.NewNop()})
+	if err != nil {
+		t.Fatal(err)
+	}
+	listener, err := secure.Listen(path)
+	if err != nil {
+		t.Fatal(err)
+	}
+	roles := &api.Roles{}
+	roles.Set(nil, map[uint32]api.Role{uint32(os.Geteuid()): api.Loses})
+	leading, server := api.New(plugins{}, nil, roles, secure.Local{May: roles.MayConnect}, zap.NewNop())
+	leading.Lead(made)
+	go server.Serve(listener)
+	return made, func() { made.Close(); server.Stop() }
+}
+
+// said is what was printed until now.
+type said struct {
+	mutex sync.Mutex
+	text  bytes.Buffer
+}
+
+func (it *said) Write(text []byte) (int, error) {
+	it.mutex.Lock()
+	defer it.mutex.Unlock()
+	return it.text.Write(text)
+}
+
+// soon wants that a text is printed so many times.
+func (it *said) soon(t *testing.T, text string, count int) {
+	t.Helper()
+	for end := time.Now().Add(10 * time.Second); ; time.Sleep(5 * time.Millisecond) {
+		it.mutex.Lock()
+		all := it.text.String()
+		it.mutex.Unlock()
+		if strings.Count(all, text) >= count {
+			return
+		}
+		if time.Now().After(end) {
+			t.Fatalf("it doesn't say %q %d times: %s", text, count, all)
+		}
+	}
+}
+
+// Who watches sees what happens until it is interrupted, whatever becomes of the service meanwhile.
+func TestWatchGoesOn(t *testing.T) {
+	path, kept := filepath.Join(t.TempDir(), "socket"), hosttest.NewStore()
+	ctx, interrupt := context.WithCancel(context.Background())
+	defer interrupt()
+	made, end := serveAt(t, path, kept)
+	says(t, "unix://"+path, "create|v|--block|--wait", 0, "yes")
+	output, code := &said{}, make(chan int, 1)
+	go func() { code <- run(ctx, []string{"--address", "unix://" + path, "watch"}, output, output) }()
+	for until := time.Now().Add(10 * time.Second); made.Counts().Watchers == 0 && time.Now().Before(until); {
+		time.Sleep(time.Millisecond)
+	}
+	time.Sleep(20 * time.Millisecond) // until that is answered
+	end()
+	output.soon(t, "it begins again", 1)
+	_, end = serveAt(t, path, kept)
+	defer func() { end() }()
+	output.soon(t, "v: at rest, exists yes", 1)
+	says(t, "unix://"+path, "create|w|--block|--wait", 0, "yes")
+	output.soon(t, "w: at rest, exists yes", 1)
+	interrupt()
+	if got := <-code; got != 0 {
+		t.Errorf("it ended with %d", got)
+	}
 }
 
 // pages is a service that lists a volume on each page.

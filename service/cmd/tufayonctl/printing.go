@@ -13,6 +13,8 @@ import (
 	"github.com/golang/protobuf/jsonpb"
 	"github.com/golang/protobuf/proto"
 	"github.com/spf13/cobra"
+	"google.golang.org/grpc/codes"
+	"google.golang.org/grpc/status"
 
 	"tufayon/service/api/wire"
 )
@@ -201,13 +203,7 @@ func (ctl *ctl) watch() *cobra.Command {
 			if len(words) == 1 {
 				request.Name = words[0]
 			}
-			stream, err := client.Watch(ctx, request)
-			for err == nil {
-				var event *wire.Event
-				if event, err = stream.Recv(); err == nil {
-					err = ctl.print(event, func() { ctl.event(event) })
-				}
-			}
+			err = ctl.watched(ctx, client, request)
 			if errors.Is(command.Context().Err(), context.Canceled) {
 				return nil // it was interrupted
 			}
@@ -216,6 +212,40 @@ func (ctl *ctl) watch() *cobra.Command {
 	}
 	command.Flags().BoolVar(&current, "current", false, "first tell how it is now")
 	return command
+}
+
+// watched tells what happens. Where a service that told something ends, or was too fast, it begins again, with how it is then.
+func (ctl *ctl) watched(ctx context.Context, client wire.OrchestratorClient, request *wire.WatchRequest) error {
+	for until := (time.Time{}); ; time.Sleep(again) {
+		hasBegun, err := ctl.watchOnce(ctx, client, request)
+		if hasBegun {
+			until = time.Now().Add(patience)
+		}
+		code := status.Code(err)
+		if ctx.Err() != nil || code != codes.Unavailable && code != codes.OutOfRange || time.Now().After(until) {
+			return err
+		}
+		if hasBegun {
+			fmt.Fprintf(ctl.errors, "tufayonctl: %s: it begins again\n", told(err))
+		}
+		request.Current = true
+	}
+}
+
+// watchOnce tells what happens until that ends, and says whether it had begun: an answer had a header, then.
+func (ctl *ctl) watchOnce(ctx context.Context, client wire.OrchestratorClient, request *wire.WatchRequest) (hasBegun bool, err error) {
+	stream, err := client.Watch(ctx, request)
+	if err != nil {
+		return false, err
+	}
+	for err == nil {
+		var event *wire.Event
+		if event, err = stream.Recv(); err == nil {
+			err = ctl.print(event, func() { ctl.event(event) })
+		}
+	}
+	header, _ := stream.Header()
+	return len(header) > 0, err
 }
 
 func (ctl *ctl) event(event *wire.Event) {
