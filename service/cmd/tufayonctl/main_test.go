@@ -176,7 +176,8 @@ func TestWatchGoesOn(t *testing.T) {
 	for until := time.Now().Add(10 * time.Second); made.Counts().Watchers == 0 && time.Now().Before(until); {
 		time.Sleep(time.Millisecond)
 	}
-	time.Sleep(20 * time.Millisecond) // until that is answered
+	says(t, "unix://"+path, "create|u|--block|--wait", 0, "yes")
+	output.soon(t, "u: at rest, exists yes", 1)
 	end()
 	output.soon(t, "it begins again", 1)
 	_, end = serveAt(t, path, kept)
