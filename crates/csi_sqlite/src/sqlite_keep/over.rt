@@ -69,29 +69,30 @@ pub fn over_found<T, P: OverStore<T> + Drop>(
     Ok(answer)
 }
 
-// Does it over these stores.
-fn over_all<S: Alter, T, P: OverStores<T>>(
-    rt: &HostRuntime,
-    process: P,
-    keeps: &mut [SqliteKeep<S>],
-) -> T {
-    process.run(rt, keeps)
+// A store in a file, as programs have it. What is done to several of them is done to any kind of these: to this one kind a loop costs its proof a minute.
+trait InFile: Keep + Drop {
+    // The store in the file at this path.
+    fn open_at(rt: &HostRuntime, path: &str) -> Result<Self, KeepFault>
+        ensures { IfErr result (λ fault. (fault ≡ KeepFault.Device) ⊎ (fault ≡ KeepFault.NoMemory)) };
+
+    fn close_it(self) -> Result<(), KeepFault>;
 }
 
-// The same of stores in files.
-fn over_all_files<D: Disk + Drop, T, P: OverStores<T>>(
-    rt: &HostRuntime,
-    process: P,
-    keeps: &mut [SqliteKeep<FileStore<D>>],
-) -> T {
-    over_all(rt, process, keeps)
+impl InFile for SqliteKeep<FileStore<FileFrom<Unknown>>> {
+    fn open_at(
+        rt: &HostRuntime,
+        path: &str,
+    ) -> Result<SqliteKeep<FileStore<FileFrom<Unknown>>>, KeepFault> {
+        SqliteKeep::open_file(rt, path, Unknown)
+    }
+
+    fn close_it(self) -> Result<(), KeepFault> {
+        close_file(self)
+    }
 }
 
-// The stores in the files at these paths, in order. Where one can't be opened, those before it are closed.
-fn opened(
-    rt: &HostRuntime,
-    paths: &[&str],
-) -> Result<Vec<SqliteKeep<FileStore<FileFrom<Unknown>>>>, KeepFault>
+// The stores at these paths, in order. Where one can't be opened, those before it are closed.
+fn opened<K: InFile>(rt: &HostRuntime, paths: &[&str]) -> Result<Vec<K>, KeepFault>
     ensures cause { IfErr result (λ fault. (fault ≡ KeepFault.Device) ⊎ (fault ≡ KeepFault.NoMemory)) }
 {
     let mut keeps = match Vec::with_capacity(rt.alloc(), paths.len()) {
@@ -99,7 +100,7 @@ fn opened(
         Err(_) => return Err(KeepFault::NoMemory),
     };
     for path in paths {
-        let keep = match SqliteKeep::open_file(rt, path, Unknown) {
+        let keep = match K::open_at(rt, path) {
             Ok(keep) => keep,
             Err(fault) => {
                 let _ = close_all(keeps);
@@ -118,15 +119,31 @@ fn opened(
 }
 
 // Closes them, and answers what the first of them answered that can't be closed.
-fn close_all(keeps: Vec<SqliteKeep<FileStore<FileFrom<Unknown>>>>) -> Result<(), KeepFault> {
+fn close_all<K: InFile>(keeps: Vec<K>) -> Result<(), KeepFault> {
     let mut closing = Ok(());
     for keep in keeps {
-        let one = close_file(keep);
+        let one = keep.close_it();
         if closing.is_ok() {
             closing = one;
         }
     }
     closing
+}
+
+// Opens stores, does this over them, and closes them.
+fn over_each<K: InFile, T, P: OverStores<T> + Drop>(
+    rt: &HostRuntime,
+    paths: &[&str],
+    process: P,
+) -> Result<(T, Result<(), KeepFault>), KeepFault>
+    ensures cause { IfErr result (λ fault. (fault ≡ KeepFault.Device) ⊎ (fault ≡ KeepFault.NoMemory)) }
+{
+    let mut keeps = match opened::<K>(rt, paths) {
+        Ok(keeps) => keeps,
+        Err(fault) => return Err(fault),
+    };
+    let answer = process.run(rt, keeps.as_mut_slice());
+    Ok((answer, close_all(keeps)))
 }
 
 /// Does this over the stores in the SQLite files at these paths, as `over_file` does over one: all are open before it is done, and are closed
@@ -138,10 +155,5 @@ pub fn over_files_at<T, P: OverStores<T> + Drop>(
 ) -> Result<(T, Result<(), KeepFault>), KeepFault>
     ensures cause { IfErr result (λ fault. (fault ≡ KeepFault.Device) ⊎ (fault ≡ KeepFault.NoMemory)) }
 {
-    let mut keeps = match opened(rt, paths) {
-        Ok(keeps) => keeps,
-        Err(fault) => return Err(fault),
-    };
-    let answer = over_all_files(rt, process, keeps.as_mut_slice());
-    Ok((answer, close_all(keeps)))
+    over_each::<SqliteKeep<FileStore<FileFrom<Unknown>>>, T, P>(rt, paths, process)
 }
