@@ -67,7 +67,7 @@ func waiting(t *testing.T, options Options, leader func() string) (*Page, *pipes
 		Set: "s1", Host: func() *host.Host { return nil }, Leader: leader, Plugins: func() map[string]carrying.State { return nil },
 		Slots: func() map[string]uint64 { return nil },
 	})
-	page.stuck, page.silent = 50*time.Millisecond, 20*time.Millisecond
+	page.stuck, page.silent = within, 20*time.Millisecond
 	options.Metrics, options.Ready, options.Page = http.NotFoundHandler(), func() bool { return true }, page
 	server, listener := New(options), &pipes{made: make(chan net.Conn), ended: make(chan struct{})}
 	go server.Serve(listener)
@@ -89,16 +89,20 @@ func (page *Page) soon(t *testing.T, streams int) {
 
 // A page that takes nothing of what it is told doesn't keep its place.
 func TestStuck(t *testing.T) {
-	page, at := waiting(t, Options{}, first)
+	begun := make(chan struct{}, 1)
+	page, at := waiting(t, Options{}, func() string {
+		begun <- struct{}{}
+		return "the first"
+	})
+	page.stuck = 50 * time.Millisecond
 	at.ask(t, "/events")
-	page.soon(t, 1)
+	<-begun
 	page.soon(t, 0)
 }
 
 // A page above the limit is told to ask once more, and follows once another one is gone.
 func TestManyPages(t *testing.T) {
 	page, at := waiting(t, Options{}, first)
-	page.stuck = within
 	for at := 0; at < mostStreams; at++ {
 		page.enter()
 	}
@@ -173,7 +177,6 @@ func (it *door) ServerHandshake(raw net.Conn) (net.Conn, credentials.AuthInfo, e
 func TestJudged(t *testing.T) {
 	its := &door{}
 	page, at := waiting(t, Options{Known: its}, first)
-	page.stuck = within
 	go io.Copy(io.Discard, at.ask(t, "/events"))
 	page.soon(t, 1)
 	connection := at.ask(t, "/healthz")
