@@ -20,13 +20,25 @@ build_over() {
     (cd "$top/crates/$crate" && "$kit/bin/rattle" build "${words[@]}" --backend llvm --toolchain "${toolchain:-$kit/toolchain}" -o "$out")
 }
 
+# The crates of this repository that the crate $1 stands on, each once.
+crates_below() {
+    local it next="$1" found=" "
+    while [ -n "$next" ]; do
+        next="$(for it in $next; do sed -n "s/^$it\( staticlib\)\{0,1\}: *//p" "$top/crates.txt"; done | tr ' ' '\n' | sort -u)"
+        next="$(for it in $next; do [[ ! -d "$top/crates/$it" || "$found" == *" $it "* ]] || echo "$it"; done)"
+        for it in $next; do found+="$it "; done
+    done
+    echo $found
+}
+
 # Leaves the static library in crates/csi_embedded/out, over what rt ci left there. Who asks for it second waits for the first, and finds it.
 built_library() {
-    local library="$top/crates/csi_embedded/out/libcsi_embedded.a"
+    local library="$top/crates/csi_embedded/out/libcsi_embedded.a" below
+    below="$(for it in $(crates_below csi_embedded); do echo "$top/crates/$it/out/rlib"; done)"
     [ -d "$top/crates/csi_service/out/rlib" ] || { echo "there is no crates/csi_service/out/rlib: rt ci leaves it"; return 1; }
     (
         flock 8
-        [ -f "$library" ] && [ -z "$(find "$top"/crates/*/out/rlib -maxdepth 0 -newer "$library" -print -quit)" ] ||
+        [ -f "$library" ] && [ -z "$(find $below -maxdepth 0 -newer "$library" -print -quit)" ] ||
             build_over csi_embedded out/libcsi_embedded.a "$top"/crates/*/out/rlib
     ) 8> "$top/crates/csi_embedded/out/library.lock"
 }
