@@ -22,7 +22,7 @@ const (
 	pingAfter  = 10 * time.Second // of silence: a server that is cut off is left then, and another one asked
 	pingWithin = 3 * time.Second
 	again      = 500 * time.Millisecond // until what failed is tried again
-	giveBack   = 3 * time.Second        // what it may take, once it is to end, to give back a place among those who wait to lead
+	giveBack   = 3 * time.Second        // what it may take, once it is to end, to give back the lease, or a place among those who wait to lead
 )
 
 // Config says where a store is in etcd, and how this process leads.
@@ -192,9 +192,11 @@ func silent() *zap.Config {
 // Lost is closed once the lease is over.
 func (leading *leading) Lost() <-chan struct{} { return leading.session.Done() }
 
-// Close gives the lease back, so that another may lead at once.
+// Close gives the lease back, so that another may lead at once. Where etcd doesn't take it soon, the lease ends by itself, and isn't waited for.
 func (leading *leading) Close() error {
-	leading.session.Close() // where that fails, the lease ends by itself
+	late := time.AfterFunc(giveBack, leading.end)
+	defer late.Stop()
+	leading.session.Close()
 	leading.end()
 	return leading.client.Close()
 }
