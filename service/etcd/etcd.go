@@ -108,9 +108,9 @@ var errWaited = errors.New("the lease ended while this process waited to lead")
 
 // lead waits until this process leads. It fails where etcd can't be reached at first, and where the context ends.
 func (config Config) lead(ctx context.Context, client *clientv3.Client) (*leading, error) {
-	for {
+	for hasWaited := false; ; hasWaited = true {
 		opened, err := config.campaign(ctx, client)
-		if err == nil || ctx.Err() != nil || !errors.Is(err, errWaited) {
+		if err == nil || ctx.Err() != nil || !errors.Is(err, errWaited) && !(hasWaited && mayCome(err)) {
 			return opened, err
 		}
 		for ; err != nil; err = config.reach(ctx, client) {
