@@ -35,10 +35,7 @@ func (refusal Refusal) Error() string { return string(refusal) }
 // Run has the program make the store over copies of the others, and gives the new one what it made; before that, the orchestrator notes beside its record
 // that the controller has heard of the session, and of nothing that it sent. It gives the program's line. After a failure it is run again.
 func (rebuilding *Rebuilding) Run(ctx context.Context) ([]byte, error) {
-	if parts, err := rebuilding.New.Load(ctx); err != nil || len(parts) > 0 {
-		if err == nil {
-			err = ErrNotNew
-		}
+	if err := isNew(ctx, rebuilding.New); err != nil {
 		return nil, err
 	}
 	sides, err := store.SidesOf(ctx, rebuilding.Orchestrator)

@@ -149,6 +149,25 @@ func TestNotRebuilt(t *testing.T) {
 	set.wasRebuilt(line, err, session+1)
 }
 
+// A controller's is made where nothing is left beside it of a lost one: it couldn't be opened.
+func TestRebuiltWhereNothingIsLeft(t *testing.T) {
+	set := newSet(t)
+	session := lost(t, set)
+	set.leftOf("rebuilt")
+	_, before := set.has("new")
+	if _, err := set.rebuild(5, "n1"); !errors.Is(err, store.ErrBeside) {
+		t.Errorf("over what is left: %v", err)
+	}
+	if _, after := set.has("new"); !reflect.DeepEqual(before, after) {
+		t.Errorf("beside the orchestrator's record stand %v, not %v", after, before)
+	}
+	if err := os.Remove(set.path("rebuilt") + ".beside"); err != nil {
+		t.Fatal(err)
+	}
+	line, err := set.rebuild(5, "n1")
+	set.wasRebuilt(line, err, session+1)
+}
+
 // Both in etcd.
 func TestRebuiltInEtcd(t *testing.T) {
 	set := newSet(t)
