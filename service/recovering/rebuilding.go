@@ -94,10 +94,13 @@ func (rebuilding *Rebuilding) makeIn(ctx context.Context, folder string) ([]byte
 	err = command.Run()
 	if ended := (*exec.ExitError)(nil); errors.As(err, &ended) {
 		text := strings.TrimPrefix(strings.TrimSpace(why.String()), "csi-replay: ")
-		if ended.ExitCode() == 1 {
+		switch {
+		case text == "": // a signal ended it, say: that is why
+		case ended.ExitCode() == 1:
 			return nil, Refusal(text)
+		default:
+			err = errors.New(text)
 		}
-		err = errors.New(text)
 	}
 	if err != nil {
 		return nil, fmt.Errorf("%s: %w", rebuilding.Program, err)

@@ -4,6 +4,7 @@ import (
 	"errors"
 	"fmt"
 	"os"
+	"path/filepath"
 	"reflect"
 	"runtime"
 	"testing"
@@ -166,6 +167,24 @@ func TestRebuiltWhereNothingIsLeft(t *testing.T) {
 	}
 	line, err := set.rebuild(5, "n1")
 	set.wasRebuilt(line, err, session+1)
+}
+
+// Why the program makes nothing is what it says, or, where it says nothing, how it ended.
+func TestProgramFails(t *testing.T) {
+	set := newSet(t)
+	lost(t, set)
+	for script, why := range map[string]string{"kill -9 $$": "signal: killed", "exit 1": "exit status 1", "echo 'csi-replay: device' >&2; exit 3": "device"} {
+		program := filepath.Join(set.folder, "program")
+		if err := os.WriteFile(program, []byte("#!/bin/sh\n"+script), 0o700); err != nil {
+			t.Fatal(err)
+		}
+		asked := Rebuilding{Program: program, Config: []byte(config), Next: 5, New: set.open("rebuilt"), Orchestrator: set.open("new")}
+		if _, err := asked.Run(ctx); err == nil || err.Error() != program+": "+why {
+			t.Errorf("%s: %v, not %s", script, err, why)
+		}
+		asked.New.Close()
+		asked.Orchestrator.Close()
+	}
 }
 
 // Both in etcd.
