@@ -273,6 +273,7 @@ func TestReadPlugin(t *testing.T) {
 		{secure.Node, strings.Replace(node, `"users": [7]`, `"local": "unix:///w", "watch": "unix:///w"`, 1), []string{`process.json: local: "unix:///w" is no unix://PATH`}},
 		{secure.Controller, `{"set": "set.json", "store": "c.db", "upstream": "unix:///u", "watch": "unix:///u"}`, []string{`upstream: "unix:///u" is no unix://PATH`}},
 		{secure.Controller, `{"set": "set.json", "store": "c.db", "upstream": "unix:///u", "local": "unix:///u"}`, []string{`upstream: "unix:///u" is no unix://PATH`}},
+		{secure.Node, strings.Replace(behind, `"users": [7]`, `"session": 5`, 1), []string{"process.json: session: by arrival there is no session of a joining"}},
 		{secure.Controller, `{"set": "set.json", "store": "c.db", "adopt": true}`, []string{"upstream: without one there is no numbers, adopt or lost"}},
 		{secure.Controller, `{"set": "set.json"}`, []string{"store: either this file is there, or etcd"}},
 	} {
