@@ -18,12 +18,15 @@ import (
 
 const (
 	dialWithin = 5 * time.Second
-	within     = 10 * time.Second // what reading, or a lease, may take
+	within     = 10 * time.Second // what a lease may take
 	pingAfter  = 10 * time.Second // of silence: a server that is cut off is left then, and another one asked
 	pingWithin = 3 * time.Second
 	again      = 500 * time.Millisecond // until what failed is tried again
 	giveBack   = 3 * time.Second        // what it may take, once it is to end, to give back the lease, or a place among those who wait to lead
 )
+
+// readWithin is what reading may take for who has the store: long enough that another server is asked where one doesn't answer.
+const readWithin = pingAfter + pingWithin + 5*time.Second
 
 // Config says where a store is in etcd, and how this process leads.
 type Config struct {
