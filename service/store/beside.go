@@ -152,8 +152,10 @@ func (beside *beside) load(ctx context.Context) (map[string][]byte, error) {
 // commit puts sides as those of the commit after the last one: of none its number alone.
 func (beside *beside) commit(ctx context.Context, sides []Side) error {
 	err := beside.writer.transact(ctx, beside.db, func(tx transaction) error {
-		if err := tx.run(takeLater, beside.made); err != nil {
-			return err
+		if beside.later { // else there are none, and all would be read for that
+			if err := tx.run(takeLater, beside.made); err != nil {
+				return err
+			}
 		}
 		for _, side := range marked(sides) {
 			var err error
@@ -228,7 +230,6 @@ func (store *sqlite) commitWith(ctx context.Context, sides []Side, changes []Cha
 		if err := beside.commit(ctx, sides); err != nil {
 			return err
 		}
-		beside.later = false
 		put <- nil
 	} else {
 		go func() { put <- beside.commit(ctx, sides) }()
@@ -246,5 +247,6 @@ func (store *sqlite) commitWith(ctx context.Context, sides []Side, changes []Cha
 	if err == nil {
 		beside.made++
 	}
+	beside.later = err != nil // what is here may be of a commit that wasn't made
 	return err
 }
