@@ -282,9 +282,16 @@ func (leading *leading) ask(ctx context.Context, mark string, operations []clien
 	return mark != "" && len(found) > 0 && string(found[0].Value) == mark, nil
 }
 
-// mayCome says whether it may be otherwise when a transaction is asked for again: a server is gone, or restarts, or they find a leader.
+// dropped is what a server says of a transaction while it hands on to another one that it leads.
+const dropped = "raft proposal dropped"
+
+// mayCome says whether it may be otherwise when a transaction is asked for again: a server is gone, or restarts, or they find a leader; or one dropped it,
+// since it hands on that it leads, or has too much to do.
 func mayCome(err error) bool {
-	if errors.Is(err, context.DeadlineExceeded) || errors.Is(err, context.Canceled) {
+	if errors.Is(err, context.DeadlineExceeded) || errors.Is(err, context.Canceled) || errors.Is(err, rpctypes.ErrTooManyRequests) {
+		return true
+	}
+	if told, is := status.FromError(err); is && told.Message() == dropped {
 		return true
 	}
 	code := status.Code(err)

@@ -18,12 +18,15 @@ import (
 
 const (
 	dialWithin = 5 * time.Second
-	within     = 10 * time.Second // what reading, or a lease, may take
+	within     = 10 * time.Second // what a lease may take
 	pingAfter  = 10 * time.Second // of silence: a server that is cut off is left then, and another one asked
 	pingWithin = 3 * time.Second
 	again      = 500 * time.Millisecond // until what failed is tried again
-	giveBack   = 3 * time.Second        // what it may take, once it is to end, to give back a place among those who wait to lead
+	giveBack   = 3 * time.Second        // what it may take, once it is to end, to give back the lease, or a place among those who wait to lead
 )
+
+// readWithin is what reading may take for who has the store: long enough that another server is asked where one doesn't answer.
+const readWithin = pingAfter + pingWithin + 5*time.Second
 
 // Config says where a store is in etcd, and how this process leads.
 type Config struct {
@@ -108,9 +111,9 @@ var errWaited = errors.New("the lease ended while this process waited to lead")
 
 // lead waits until this process leads. It fails where etcd can't be reached at first, and where the context ends.
 func (config Config) lead(ctx context.Context, client *clientv3.Client) (*leading, error) {
-	for {
+	for hasWaited := false; ; hasWaited = true {
 		opened, err := config.campaign(ctx, client)
-		if err == nil || ctx.Err() != nil || !errors.Is(err, errWaited) {
+		if err == nil || ctx.Err() != nil || !errors.Is(err, errWaited) && !(hasWaited && mayCome(err)) {
 			return opened, err
 		}
 		for ; err != nil; err = config.reach(ctx, client) {
@@ -192,9 +195,11 @@ func silent() *zap.Config {
 // Lost is closed once the lease is over.
 func (leading *leading) Lost() <-chan struct{} { return leading.session.Done() }
 
-// Close gives the lease back, so that another may lead at once.
+// Close gives the lease back, so that another may lead at once. Where etcd doesn't take it soon, the lease ends by itself, and isn't waited for.
 func (leading *leading) Close() error {
-	leading.session.Close() // where that fails, the lease ends by itself
+	late := time.AfterFunc(giveBack, leading.end)
+	defer late.Stop()
+	leading.session.Close()
 	leading.end()
 	return leading.client.Close()
 }

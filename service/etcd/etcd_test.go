@@ -270,6 +270,23 @@ func TestWaitingAlone(t *testing.T) {
 	}
 }
 
+// A process that leads ends soon after it is told to, also where etcd is gone by then, however long its lease is.
+func TestLeadingAlone(t *testing.T) {
+	config := server(t)
+	config.LeaseSeconds = 60
+	way, cut := cable(t, config.Endpoints[0])
+	config.Endpoints = []string{way}
+	kept := open(t, config)
+	cut()
+	closed := make(chan error, 1)
+	go func() { closed <- kept.Close() }()
+	select {
+	case <-closed:
+	case <-time.After(giveBack + 10*time.Second):
+		t.Error("it doesn't end")
+	}
+}
+
 // cable is a way to a server, until it is cut.
 func cable(t *testing.T, endpoint string) (way string, cut func()) {
 	t.Helper()

@@ -34,17 +34,21 @@ func (config Config) Finder() (*Finder, error) {
 	return &Finder{client: client, key: config.leaderKey()}, nil
 }
 
-// Leader is what who leads says of itself (Config.Says), as etcd had it half a second ago or later. It is nothing where nobody leads, or etcd doesn't say.
+// Leader is what who leads says of itself (Config.Says), as etcd had it half a second ago or later. It is nothing where nobody leads, or etcd doesn't say;
+// that a caller gave up meanwhile says nothing of etcd, and isn't told to others.
 func (finder *Finder) Leader(ctx context.Context) string {
 	finder.mutex.Lock()
 	defer finder.mutex.Unlock()
 	if time.Since(finder.asked) < findAgain {
 		return finder.said
 	}
-	ctx, cancel := context.WithTimeout(ctx, findWithin)
+	asking, cancel := context.WithTimeout(ctx, findWithin)
 	defer cancel()
+	got, err := finder.client.Get(asking, finder.key+"/", clientv3.WithFirstCreate()...) // who waits has a key of later
+	if err != nil && ctx.Err() != nil {
+		return ""
+	}
 	finder.said = ""
-	got, err := finder.client.Get(ctx, finder.key+"/", clientv3.WithFirstCreate()...) // who waits has a key of later
 	if err == nil && len(got.Kvs) > 0 {
 		finder.said = string(got.Kvs[0].Value)
 	}

@@ -145,7 +145,7 @@ func (leading *leading) read(ctx context.Context, folder string) ([]*mvccpb.KeyV
 }
 
 func (leading *leading) get(ctx context.Context, key string, options ...clientv3.OpOption) (*clientv3.GetResponse, error) {
-	ctx, cancel := context.WithTimeout(ctx, within)
+	ctx, cancel := context.WithTimeout(ctx, readWithin)
 	defer cancel()
 	got, err := leading.client.Get(ctx, key, options...)
 	if err != nil {

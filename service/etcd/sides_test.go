@@ -97,6 +97,13 @@ func TestFinder(t *testing.T) {
 	first.Close()
 	second := <-waited
 	wants("second:2")
+	time.Sleep(findAgain)
+	gone, giveUp := context.WithCancel(ctx)
+	giveUp()
+	finder.Leader(gone)
+	if said := finder.Leader(ctx); said != "second:2" {
+		t.Errorf("%q leads, behind a caller that gave up", said)
+	}
 	second.Close()
 	wants("")
 }

@@ -35,10 +35,7 @@ func (refusal Refusal) Error() string { return string(refusal) }
 // Run has the program make the store over copies of the others, and gives the new one what it made; before that, the orchestrator notes beside its record
 // that the controller has heard of the session, and of nothing that it sent. It gives the program's line. After a failure it is run again.
 func (rebuilding *Rebuilding) Run(ctx context.Context) ([]byte, error) {
-	if parts, err := rebuilding.New.Load(ctx); err != nil || len(parts) > 0 {
-		if err == nil {
-			err = ErrNotNew
-		}
+	if err := isNew(ctx, rebuilding.New); err != nil {
 		return nil, err
 	}
 	sides, err := store.SidesOf(ctx, rebuilding.Orchestrator)
@@ -97,10 +94,13 @@ func (rebuilding *Rebuilding) makeIn(ctx context.Context, folder string) ([]byte
 	err = command.Run()
 	if ended := (*exec.ExitError)(nil); errors.As(err, &ended) {
 		text := strings.TrimPrefix(strings.TrimSpace(why.String()), "csi-replay: ")
-		if ended.ExitCode() == 1 {
+		switch {
+		case text == "": // a signal ended it, say: that is why
+		case ended.ExitCode() == 1:
 			return nil, Refusal(text)
+		default:
+			err = errors.New(text)
 		}
-		err = errors.New(text)
 	}
 	if err != nil {
 		return nil, fmt.Errorf("%s: %w", rebuilding.Program, err)

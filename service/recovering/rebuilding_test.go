@@ -4,6 +4,7 @@ import (
 	"errors"
 	"fmt"
 	"os"
+	"path/filepath"
 	"reflect"
 	"runtime"
 	"testing"
@@ -147,6 +148,43 @@ func TestNotRebuilt(t *testing.T) {
 	asked.Orchestrator.Close()
 	line, err := set.rebuild(5)
 	set.wasRebuilt(line, err, session+1)
+}
+
+// A controller's is made where nothing is left beside it of a lost one: it couldn't be opened.
+func TestRebuiltWhereNothingIsLeft(t *testing.T) {
+	set := newSet(t)
+	session := lost(t, set)
+	set.leftOf("rebuilt")
+	_, before := set.has("new")
+	if _, err := set.rebuild(5, "n1"); !errors.Is(err, store.ErrBeside) {
+		t.Errorf("over what is left: %v", err)
+	}
+	if _, after := set.has("new"); !reflect.DeepEqual(before, after) {
+		t.Errorf("beside the orchestrator's record stand %v, not %v", after, before)
+	}
+	if err := os.Remove(set.path("rebuilt") + ".beside"); err != nil {
+		t.Fatal(err)
+	}
+	line, err := set.rebuild(5, "n1")
+	set.wasRebuilt(line, err, session+1)
+}
+
+// Why the program makes nothing is what it says, or, where it says nothing, how it ended.
+func TestProgramFails(t *testing.T) {
+	set := newSet(t)
+	lost(t, set)
+	for script, why := range map[string]string{"kill -9 $$": "signal: killed", "exit 1": "exit status 1", "echo 'csi-replay: device' >&2; exit 3": "device"} {
+		program := filepath.Join(set.folder, "program")
+		if err := os.WriteFile(program, []byte("#!/bin/sh\n"+script), 0o700); err != nil {
+			t.Fatal(err)
+		}
+		asked := Rebuilding{Program: program, Config: []byte(config), Next: 5, New: set.open("rebuilt"), Orchestrator: set.open("new")}
+		if _, err := asked.Run(ctx); err == nil || err.Error() != program+": "+why {
+			t.Errorf("%s: %v, not %s", script, err, why)
+		}
+		asked.New.Close()
+		asked.Orchestrator.Close()
+	}
 }
 
 // Both in etcd.

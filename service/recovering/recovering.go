@@ -75,11 +75,20 @@ func (plan *plan) carryOut(ctx context.Context) error {
 	return plan.made.Commit(ctx, false, plan.parts)
 }
 
+// isNew fails where a store that is to be made has parts, or where something of another one lies beside it: it could never be opened.
+func isNew(ctx context.Context, made store.Store) error {
+	parts, err := made.Load(ctx)
+	if err == nil && len(parts) > 0 {
+		err = ErrNotNew
+	}
+	if err == nil {
+		_, err = store.SidesOf(ctx, made)
+	}
+	return err
+}
+
 func (recovery *Recovery) plan(ctx context.Context) (*plan, error) {
-	if parts, err := recovery.New.Load(ctx); err != nil || len(parts) > 0 {
-		if err == nil {
-			err = ErrNotNew
-		}
+	if err := isNew(ctx, recovery.New); err != nil {
 		return nil, err
 	}
 	given := &given{}

@@ -295,6 +295,45 @@ func TestRefused(t *testing.T) {
 	}
 }
 
+// leftOf leaves beside a store that isn't there what stood beside a lost one.
+func (set *set) leftOf(name string) {
+	set.t.Helper()
+	kept := set.open(name)
+	for at := 0; at < 3; at++ {
+		if err := store.CommitWith(ctx, kept, []store.Side{{Name: "list", Value: []byte{byte(at)}}}, nil); err != nil {
+			set.t.Fatal(err)
+		}
+	}
+	if err := kept.Close(); err != nil {
+		set.t.Fatal(err)
+	}
+	if err := os.Remove(set.path(name)); err != nil {
+		set.t.Fatal(err)
+	}
+}
+
+// What is left beside the new store of a lost one is found before anything is changed: neither could be opened with the other.
+func TestLeftBeside(t *testing.T) {
+	set := used(t, newSet(t))
+	set.leftOf("new")
+	for at := 0; at < 2; at++ {
+		if _, err := set.recover(0, config, "n1", "n2"); !errors.Is(err, store.ErrBeside) {
+			t.Errorf("over what is left: %v", err)
+		}
+	}
+	for _, name := range []string{"controller", "n1", "n2"} {
+		if session := set.session(name); session > 2 {
+			t.Errorf("%s is in session %d", name, session)
+		}
+	}
+	if err := os.Remove(set.path("new") + ".beside"); err != nil {
+		t.Fatal(err)
+	}
+	if told, err := set.recover(0, config, "n1", "n2"); err != nil || told.Session != 2+above {
+		t.Errorf("once it is moved away: %+v, %v", told, err)
+	}
+}
+
 // A failing store fails at its commits.
 type failing struct {
 	store.Store

@@ -86,8 +86,11 @@ func (made *Schedule) Check(ctx context.Context, program string) (at int, why st
 	if err := json.Unmarshal(output, &report); err != nil {
 		return 0, "", fmt.Errorf("the report: %w", err)
 	}
+	if most := len(made.Outcomes); len(report.Events) > most || len(made.Events) < most {
+		return 0, "", fmt.Errorf("the report: it has %d events, and the schedule %d with %d outcomes", len(report.Events), len(made.Events), most)
+	}
 	for at, outcome := range report.Events {
-		if at >= len(made.Outcomes) || outcome != made.Outcomes[at] {
+		if outcome != made.Outcomes[at] {
 			return at + 1, fmt.Sprintf("%s came to %q, and in a run to %q", made.Events[at], made.Outcomes[at], outcome), nil
 		}
 	}

@@ -90,6 +90,13 @@ func TestCheck(t *testing.T) {
 	if _, _, err := schedule("met").Check(ctx, program(t, "echo nonsense")); err == nil || !strings.HasPrefix(err.Error(), "the report: ") {
 		t.Errorf("no report: %v", err)
 	}
+	fewer := schedule("met")
+	fewer.Outcomes = nil // as of another version's service
+	for _, it := range []*Schedule{schedule("met"), fewer} {
+		if _, _, err := it.Check(ctx, program(t, `echo '{"events":["met","met"]}'`)); err == nil || !strings.HasPrefix(err.Error(), "the report: it has 2 events") {
+			t.Errorf("a report of more events: %v", err)
+		}
+	}
 	if _, _, err := schedule("met").Check(ctx, program(t, "exit 1")); err == nil {
 		t.Error("a program that fails")
 	}

@@ -21,7 +21,7 @@ type last struct {
 // lastKey is that of the sides that have the last calls, and before a volume's id in 16 hexadecimal digits.
 const lastKey = "last/"
 
-// mostLate is how many sides of volumes without a row are taken out with a commit: the others go with later ones.
+// mostLate is how many sides of volumes without a row are taken out with a commit that is full by itself: the others go with later ones.
 const mostLate = 8
 
 func lastName(volume uint64) string { return lastKey + fmt.Sprintf("%016x", volume) }
@@ -76,10 +76,11 @@ func (core *Core) forgetLast(group *group) {
 	}
 }
 
-// addLate adds the sides of some volumes whose rows went with an earlier commit.
+// addLate adds the sides of some volumes whose rows went with an earlier commit, as many as there is room for: where many calls wait, rows go faster than
+// commits are made.
 func (core *Core) addLate(group *group) {
 	for volume := range core.late {
-		if len(group.sides) == 0 || group.late == mostLate {
+		if len(group.sides) == 0 || group.late >= mostLate && group.isFull() {
 			return
 		}
 		group.late++

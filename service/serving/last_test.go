@@ -101,17 +101,28 @@ func TestLastByArrival(t *testing.T) {
 // What is kept of volumes whose rows have gone goes too, some with each commit, whether that was in this process or before.
 func TestLate(t *testing.T) {
 	kept := &siding{memory: newMemory(), sides: map[string][]byte{}}
-	const gone = 3*mostLate - 1
+	const gone, room = 2 * mostChanges, mostChanges - 2 // beside a call's row and its side
 	for volume := uint64(10); volume < 10+gone; volume++ {
 		kept.sides[lastName(volume)] = last{}.value()
 	}
 	core := kept.serves(t, byMetadata)
-	for call, left := range []int{1 + gone - mostLate, 1 + gone - 2*mostLate, 1, 1} {
+	for call, left := range []int{2 + gone - room, 2 + gone - 2*room, 1, 1} { // the first one changes the head too
 		wants(t, core, numbered(1, uint64(call+1)), stagedIn(1, 1), codes.OK)
 		if len(kept.sides) != left {
 			t.Errorf("after call %d %d are kept, not %d", call, len(kept.sides), left)
 		}
 	}
+	full := newGroup()
+	for at := 0; !full.isFull(); at++ {
+		full.addSide(store.Side{Name: fmt.Sprint(at)})
+	}
+	for volume := uint64(10); volume < 10+gone; volume++ {
+		core.late[volume] = true
+	}
+	if core.addLate(full); full.late != mostLate || len(core.late) != gone-mostLate {
+		t.Errorf("with a full group go %d, and %d are left", full.late, len(core.late))
+	}
+	core.late = map[uint64]bool{}
 	group := newGroup()
 	group.add([]store.Change{{Key: 1, Out: true}, {Key: 2, Out: true}, {Key: 2, Value: []byte{1}}})
 	core.forgetLast(group)

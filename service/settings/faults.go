@@ -15,6 +15,7 @@ import (
 	"tufayon/service/carrying"
 	"tufayon/service/daemon"
 	"tufayon/service/frames"
+	"tufayon/service/hooks"
 	"tufayon/service/secure"
 	"tufayon/service/web"
 )
@@ -26,7 +27,8 @@ const (
 	mostNodes    = 64
 	mostSlots    = 4096
 	mostGreatest = 1<<63 - 1
-	mostSocket   = 107 // bytes of the path of a socket (unix(7))
+	mostSocket   = 107       // bytes of the path of a socket (unix(7))
+	mostStaging  = 4096 - 21 // bytes of the staging folder's path: a staging path has 4,096, and in that a slash and a volume's id
 )
 
 // checking gathers faults, each with its place.
@@ -87,6 +89,8 @@ func (set *Set) check(to *checking) {
 	}
 	if !filepath.IsAbs(set.Staging) {
 		to.refuse("staging", "%q is no absolute path", set.Staging)
+	} else if hooks.HasParent(set.Staging) || len(set.Staging) > mostStaging || strings.ContainsRune(set.Staging, 0) {
+		to.refuse("staging", "%q has .., a byte 0, or more than %d bytes: a node refuses each path in it", set.Staging, mostStaging)
 	}
 	if len(set.Nodes) > mostNodes {
 		to.refuse("nodes", "%d are more than %d", len(set.Nodes), mostNodes)

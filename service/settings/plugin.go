@@ -160,6 +160,9 @@ func (settings *PluginSettings) checkUpstream(to *checking) {
 	if plugin.Numbers != ByMetadata && plugin.Numbers != ByArrival {
 		to.refuse("numbers", "%q is neither %s nor %s", plugin.Numbers, ByMetadata, ByArrival)
 	}
+	if plugin.Numbers == ByArrival && plugin.Session > 0 {
+		to.refuse("session", "by arrival there is no session of a joining")
+	}
 	if len(plugin.Lost) > 0 && plugin.Numbers != ByArrival {
 		to.refuse("lost", "it is for numbers by arrival: who numbers calls detaches what is lost")
 	}

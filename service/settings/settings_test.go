@@ -78,6 +78,9 @@ func TestFaults(t *testing.T) {
 		{strings.Replace(set, "{", `{"times": {"patience": 1e11, "answer": 1e10, "retry": 1, "most_retry": 1e10}, `, 1), process, []string{
 			"set.json: times.answer: 1e+10 is above 1e+09", "set.json: times.most_retry: 1e+10 is above 1e+09", "set.json: times.patience: 1e+11 is above 1e+09",
 		}},
+		{strings.Replace(set, `"/staging"`, `"/a/../staging"`, 1), process, []string{`set.json: staging: "/a/../staging" has ..`}},
+		{strings.Replace(set, `"/staging"`, `"/`+strings.Repeat("s", 4075)+`"`, 1), process, []string{"more than 4075 bytes"}},
+		{strings.Replace(set, `"/staging"`, `"/a\u0000b"`, 1), process, []string{`set.json: staging: "/a\x00b" has .., a byte 0`}},
 		{strings.Replace(set, `"n2"`, `"n1"`, 1), process, []string{`set.json: nodes[1].id: "n1" is that of nodes[0] too`}},
 		{strings.Replace(set, `/run/n2`, `/run/n1`, 1), process, []string{`set.json: nodes[1].address: "unix:///run/n1.sock" is that of nodes[0] too`}},
 		{strings.Replace(set, `unix:///run/n2.sock`, `unix://n2.sock`, 1), process, []string{"set.json: nodes[1].address: \"unix://n2.sock\" has no absolute path"}},
@@ -270,6 +273,7 @@ func TestReadPlugin(t *testing.T) {
 		{secure.Node, strings.Replace(node, `"users": [7]`, `"local": "unix:///w", "watch": "unix:///w"`, 1), []string{`process.json: local: "unix:///w" is no unix://PATH`}},
 		{secure.Controller, `{"set": "set.json", "store": "c.db", "upstream": "unix:///u", "watch": "unix:///u"}`, []string{`upstream: "unix:///u" is no unix://PATH`}},
 		{secure.Controller, `{"set": "set.json", "store": "c.db", "upstream": "unix:///u", "local": "unix:///u"}`, []string{`upstream: "unix:///u" is no unix://PATH`}},
+		{secure.Node, strings.Replace(behind, `"users": [7]`, `"session": 5`, 1), []string{"process.json: session: by arrival there is no session of a joining"}},
 		{secure.Controller, `{"set": "set.json", "store": "c.db", "adopt": true}`, []string{"upstream: without one there is no numbers, adopt or lost"}},
 		{secure.Controller, `{"set": "set.json"}`, []string{"store: either this file is there, or etcd"}},
 	} {

@@ -70,6 +70,7 @@ type beside struct {
 	db     *sql.DB // nil while the file isn't there
 	writer writer
 	made   int64 // the record's last commit with sides
+	later  bool  // here are sides of the one after that too, which wasn't made there: they go with the next one, before that is made there
 }
 
 // open opens the file, if it is there or is to be made, and finds out which commit is the record's last one.
@@ -104,8 +105,9 @@ func (beside *beside) open(ctx context.Context, record *sql.DB, makes bool) erro
 	beside.db = db
 	switch mark {
 	case beside.made % counts:
-	case (beside.made + counts - 1) % counts:
-		beside.made-- // the last commit was made here alone
+	case (beside.made + counts - 1) % counts: // the last commit was made here alone
+		beside.made--
+		beside.later = true
 	case (beside.made + 1) % counts: // it was made there alone
 		if err = beside.commit(ctx, nil); err == nil {
 			beside.made++
@@ -150,8 +152,10 @@ func (beside *beside) load(ctx context.Context) (map[string][]byte, error) {
 // commit puts sides as those of the commit after the last one: of none its number alone.
 func (beside *beside) commit(ctx context.Context, sides []Side) error {
 	err := beside.writer.transact(ctx, beside.db, func(tx transaction) error {
-		if err := tx.run(takeLater, beside.made); err != nil {
-			return err
+		if beside.later { // else there are none, and all would be read for that
+			if err := tx.run(takeLater, beside.made); err != nil {
+				return err
+			}
 		}
 		for _, side := range marked(sides) {
 			var err error
@@ -222,7 +226,7 @@ func (store *sqlite) commitWith(ctx context.Context, sides []Side, changes []Cha
 		}
 	}
 	put := make(chan error, 1)
-	if isFirst(sides) {
+	if isFirst(sides) || beside.later { // else the sides of the commit that wasn't made could be taken for those of this one, which has its number
 		if err := beside.commit(ctx, sides); err != nil {
 			return err
 		}
@@ -243,5 +247,6 @@ func (store *sqlite) commitWith(ctx context.Context, sides []Side, changes []Cha
 	if err == nil {
 		beside.made++
 	}
+	beside.later = err != nil // what is here may be of a commit that wasn't made
 	return err
 }

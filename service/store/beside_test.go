@@ -226,6 +226,63 @@ func TestMissedCommits(t *testing.T) {
 	kept.Close()
 }
 
+// The sides of a commit that was made beside the record alone are never those of another one: of the commit that gets its number next, and isn't made beside
+// the record, as on a full disk.
+func TestNotAnothers(t *testing.T) {
+	path := filepath.Join(t.TempDir(), "s.db")
+	kept := sided(t, path)
+	put(t, kept, "a", "1", "b", "1")
+	if err := kept.(*sqlite).beside.commit(ctx, []Side{{Name: "a", Value: []byte("2")}}); err != nil {
+		t.Fatal(err)
+	}
+	kept.Close() // as if it had been killed before the record's commit
+	refuse(t, path+".beside", "value <> CAST('3' AS BLOB)")
+	kept = sided(t, path)
+	has(t, kept, "map[a:1 b:1]")
+	if err := kept.CommitWith(ctx, []Side{{Name: "b", Value: []byte("3")}}, some); !errors.Is(err, ErrDevice) {
+		t.Errorf("what can't be written: %v", err)
+	}
+	kept.Close()
+	kept = sided(t, path)
+	has(t, kept, "map[a:1 b:1]")
+	put(t, kept, "b", "4")
+	has(t, kept, "map[a:1 b:4]")
+	kept.Close()
+	kept = sided(t, path)
+	has(t, kept, "map[a:1 b:4]")
+	kept.Close()
+}
+
+// A commit reads no more of what stands beside the record than the sides that it puts, but once behind one that was made there alone.
+func TestReadsLittle(t *testing.T) {
+	path := filepath.Join(t.TempDir(), "s.db")
+	kept := sided(t, path)
+	readsAll := func() bool {
+		put(t, kept, "a", "1")
+		put(t, kept, "b", "1", "a", "2")
+		_, is := kept.(*sqlite).beside.writer.prepared[takeLater]
+		return is
+	}
+	if readsAll() {
+		t.Error("it reads all")
+	}
+	if err := kept.(*sqlite).beside.commit(ctx, []Side{{Name: "c", Value: []byte("1")}}); err != nil {
+		t.Fatal(err)
+	}
+	kept.Close()
+	kept = sided(t, path)
+	has(t, kept, "map[a:2 b:1]")
+	if !readsAll() {
+		t.Error("what was made there alone stays")
+	}
+	kept.Close()
+	kept = sided(t, path)
+	if has(t, kept, "map[a:2 b:1]"); readsAll() {
+		t.Error("it reads all again")
+	}
+	kept.Close()
+}
+
 // refuse has a file of sides take only rows of which this holds.
 func refuse(t *testing.T, path, unless string) {
 	t.Helper()

@@ -180,10 +180,19 @@ func TestNodes(t *testing.T) {
 		box.does(ctx, attachCall, attaches(id, node, writer))
 		box.does(ctx, detachCall, detaches(id, node))
 	}
+	var others []string
 	for at := 0; at < 63; at++ {
-		box.does(ctx, attachCall, attaches(box.made(ctx, fmt.Sprint("w", at)), fmt.Sprint("m", at), writer))
+		others = append(others, box.made(ctx, fmt.Sprint("w", at)))
+		box.does(ctx, attachCall, attaches(others[at], fmt.Sprint("m", at), writer))
 	}
 	box.refuses(ctx, codes.ResourceExhausted, "nodes", attachCall, attaches(id, "one more", writer))
+	box.restart() // what is attached counts then too
+	box.refuses(ctx, codes.ResourceExhausted, "nodes", attachCall, attaches(id, "one more", writer))
+	box.does(ctx, attachCall, attaches(box.made(ctx, "y"), "m1", writer))
+	box.does(ctx, detachCall, detaches(others[0], "m0"))
+	box.does(ctx, attachCall, attaches(id, "one more", writer))
+	box.refuses(ctx, codes.ResourceExhausted, "nodes", attachCall, attaches(others[0], "m0", writer))
+	box.does(ctx, detachCall, detaches(id, "one more"))
 	box.does(ctx, attachCall, attaches(id, "fixed", writer))
 	box.refuses(ctx, codes.ResourceExhausted, "slots", attachCall, attaches(box.made(ctx, "x"), "fixed", writer))
 }

@@ -62,6 +62,9 @@ func (its *nodes) with(id string, view serving.View) (serving.Make, error) {
 	if its.has(id) {
 		return nil, nil
 	}
+	if stay := its.stay(view); !stay[id] && len(stay) >= MostNodes { // also such as were named before this driver began
+		return nil, errNodes
+	}
 	next := append([]node(nil), its.Nodes...)
 	if len(next) >= MostNodes {
 		if next = its.withoutIdle(view); len(next) >= MostNodes {
@@ -108,14 +111,17 @@ func (its *nodes) withoutIdle(view serving.View) []node {
 	return its.Nodes
 }
 
-// taken is how many nodes don't give way: the configured ones, and those to which something is attached.
-func (its *nodes) taken(view serving.View) int {
-	busy := busy(view)
+// stay are the nodes that don't give way: the configured ones, and those to which something is attached.
+func (its *nodes) stay(view serving.View) map[string]bool {
+	stay := busy(view)
 	for _, it := range its.Nodes[:its.fixed] {
-		busy[it.ID] = true
+		stay[it.ID] = true
 	}
-	return len(busy)
+	return stay
 }
+
+// taken is how many nodes don't give way.
+func (its *nodes) taken(view serving.View) int { return len(its.stay(view)) }
 
 // Nodes gives what counts the nodes that are configured or have something attached, MostNodes at most: nil of a node's driver.
 func (proxy *Proxy) Nodes() func() int {
