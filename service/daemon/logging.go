@@ -75,7 +75,7 @@ func (it *toJournal) add(entry zapcore.Entry, fields []zapcore.Field) (isFull bo
 	}
 	made := message{entry.Message, journal.PriCrit, make(map[string]string, len(encoder.Fields)+1)}
 	for key, value := range encoder.Fields {
-		text := fmt.Sprint(value)
+		text := textFor(value)
 		made.variables["TUFAYON_"+strings.ToUpper(key)], encoder.Fields[key] = text, text
 	}
 	made.variables["TUFAYON_TS"] = entry.Time.Format(time.RFC3339Nano) // the journal's own time is that of the writing
@@ -91,6 +91,14 @@ func (it *toJournal) add(entry zapcore.Entry, fields []zapcore.Field) (isFull bo
 	}
 	it.messages = append(it.messages, made)
 	return len(it.messages) >= mostMessages, nil
+}
+
+// textFor is a field's value as the journal gets it: how long something took in seconds, as in a line of JSON.
+func textFor(value any) string {
+	if it, is := value.(time.Duration); is {
+		return string(appendSeconds(nil, int64(it)))
+	}
+	return fmt.Sprint(value)
 }
 
 // take gives what sends the messages, and tells the first fault.
