@@ -52,11 +52,16 @@ func (peers Peers) Dial(plugin, address string, connects func() uint64) (*grpc.C
 	return grpc.Dial(target, append(options, more...)...)
 }
 
-// Target is what gRPC dials to reach whoever serves at an address, or at those of several, with commas between.
+// Target is what gRPC dials to reach whoever serves at an address, or at those of several, with commas between. A Unix socket is on this machine: for it
+// gRPC, which takes its path for a host's name, doesn't ask the proxy that the environment has.
 func Target(address string) (string, []grpc.DialOption) {
+	var options []grpc.DialOption
+	if IsLocal(address) {
+		options = append(options, grpc.WithNoProxy())
+	}
 	addresses := strings.Split(address, ",")
 	if len(addresses) == 1 {
-		return address, nil
+		return address, options
 	}
 	var state resolver.State
 	for _, it := range addresses {
@@ -64,7 +69,7 @@ func Target(address string) (string, []grpc.DialOption) {
 	}
 	all := manual.NewBuilderWithScheme("tufayon")
 	all.InitialState(state)
-	return "tufayon:///several", []grpc.DialOption{grpc.WithResolvers(all)}
+	return "tufayon:///several", append(options, grpc.WithResolvers(all))
 }
 
 func (peers Peers) credentials(plugin, address string) (credentials.TransportCredentials, error) {

@@ -49,7 +49,7 @@ func connect(config Config) (*carrier, error) {
 		endpoints["node:"+node] = endpoint
 	}
 	for plugin, endpoint := range endpoints {
-		connection, err := grpc.Dial(endpoint, grpc.WithInsecure(), grpc.WithConnectParams(reconnecting))
+		connection, err := grpc.Dial(endpoint, grpc.WithInsecure(), grpc.WithNoProxy(), grpc.WithConnectParams(reconnecting))
 		if err != nil {
 			carrier.close()
 			return nil, fmt.Errorf("%s: %w", plugin, err)

@@ -18,6 +18,7 @@ import (
 	"google.golang.org/grpc/codes"
 	"google.golang.org/grpc/status"
 
+	"tufayon/service/carrying/carryingtest"
 	"tufayon/service/frames"
 )
 
@@ -146,6 +147,26 @@ func TestReconnecting(t *testing.T) {
 	time.Sleep(500 * time.Millisecond)
 	if count := atomic.LoadInt32(&sought); count < 2 || count > 10 {
 		t.Errorf("it was sought %d times", count)
+	}
+}
+
+// A driver's socket is reached without the proxy that the environment has.
+func TestProxy(t *testing.T) {
+	if !carryingtest.HasProxy(t) {
+		return
+	}
+	driver := (&carryingtest.Plugin{}).Serve(t, "unix://"+filepath.Join(t.TempDir(), "csi.sock"), nil)
+	carrier, err := connect(Config{Controller: driver.Address, DeadlineSeconds: 5})
+	if err != nil {
+		t.Fatal(err)
+	}
+	defer carrier.close()
+	frame, err := frames.Call{Number: frames.Number{Session: 1, Call: 1}, Body: frames.DeleteVolume{ID: 1}}.Encode()
+	if err != nil {
+		t.Fatal(err)
+	}
+	if reply, err := carrier.carry(context.Background(), Sending{Frame: hex.EncodeToString(frame), Plugin: "controller"}); err != nil || reply == nil {
+		t.Errorf("it replied %x, %v", reply, err)
 	}
 }
 

@@ -52,7 +52,7 @@ type Proxy struct {
 
 // New makes a proxy, which connects to its upstream once there are calls, and again where it is gone.
 func New(options Options) (*Proxy, error) {
-	connection, err := grpc.Dial(options.Address, grpc.WithInsecure(), grpc.WithDisableServiceConfig(), grpc.WithDisableRetry(),
+	connection, err := grpc.Dial(options.Address, grpc.WithInsecure(), grpc.WithNoProxy(), grpc.WithDisableServiceConfig(), grpc.WithDisableRetry(),
 		grpc.WithAuthority("localhost"), grpc.WithMaxHeaderListSize(maxMetadata), grpc.WithInitialWindowSize(passing.Window),
 		grpc.WithInitialConnWindowSize(passing.Window), grpc.WithConnectParams(grpc.ConnectParams{
 			Backoff:           backoff.Config{BaseDelay: 50 * time.Millisecond, Multiplier: 1.6, Jitter: 0.2, MaxDelay: time.Second},

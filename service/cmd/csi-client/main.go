@@ -65,7 +65,7 @@ func call(ctx context.Context, endpoint, name, text string) error {
 			return status.Error(codes.InvalidArgument, err.Error())
 		}
 	}
-	connection, err := grpc.DialContext(ctx, endpoint, grpc.WithInsecure())
+	connection, err := grpc.DialContext(ctx, endpoint, grpc.WithInsecure(), grpc.WithNoProxy())
 	if err != nil {
 		return err
 	}
