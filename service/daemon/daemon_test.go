@@ -46,8 +46,13 @@ func TestLines(t *testing.T) {
 	if _, err := time.Parse(time.RFC3339Nano, first.Ts); err != nil || first.Level != "warn" || first.Volume != "a\nb\"\u2028" || first.Took != 1.5 {
 		t.Errorf("%+v, %v", first, err)
 	}
-	if _, err := Logger("loud"); err == nil {
-		t.Error("another level")
+	for _, level := range []string{"loud", "fatal", "INFO"} {
+		if _, err := Logger(level); err == nil {
+			t.Errorf("another level, %s", level)
+		}
+	}
+	if debug, err := Logger("debug"); err != nil || !debug.Core().Enabled(zapcore.DebugLevel) {
+		t.Errorf("debug: %v", err)
 	}
 }
 
