@@ -1,10 +1,12 @@
 package secure
 
 import (
+	"errors"
 	"fmt"
 	"net"
 	"os"
 	"path/filepath"
+	"syscall"
 )
 
 // Listen makes a Unix socket that every user may connect to: the kernel says who does, and Local refuses those who may not. A socket that an earlier
@@ -13,8 +15,7 @@ func Listen(path string) (net.Listener, error) {
 	if err := os.MkdirAll(filepath.Dir(path), 0o755); err != nil {
 		return nil, err
 	}
-	if other, err := net.Dial("unix", path); err == nil {
-		other.Close()
+	if IsServed(path) {
 		return nil, fmt.Errorf("%s is served by another process", path)
 	}
 	if left, err := os.Lstat(path); err == nil && left.Mode()&os.ModeSocket != 0 {
@@ -29,4 +30,13 @@ func Listen(path string) (net.Listener, error) {
 		return nil, err
 	}
 	return listener, nil
+}
+
+// IsServed says whether a process serves a Unix socket: also one that hangs, where so many wait to be let in that no more may.
+func IsServed(path string) bool {
+	other, err := net.Dial("unix", path)
+	if err == nil {
+		other.Close()
+	}
+	return err == nil || errors.Is(err, syscall.EAGAIN)
 }
