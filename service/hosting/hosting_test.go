@@ -7,6 +7,7 @@ import (
 	"errors"
 	"fmt"
 	"net"
+	"os"
 	"path/filepath"
 	"strings"
 	"sync/atomic"
@@ -208,5 +209,33 @@ func TestRefusedAtOnce(t *testing.T) {
 	Serve(ctx, config, wants, Answer{Line: []byte("first\n"), Wanted: []string{"v"}}, strings.NewReader(""), &bytes.Buffer{})
 	if count := atomic.LoadInt32(&wants.asked); count < 2 || count > 7 {
 		t.Errorf("in a second it is asked %d times", count)
+	}
+}
+
+// A file is one object, whose times are some; a plugin without a socket in it can't be called.
+func TestRead(t *testing.T) {
+	file := filepath.Join(t.TempDir(), "host.json")
+	for content, isOne := range map[string]bool{
+		`{"store": "o.db", "retry_seconds": 0.1, "deadline_seconds": 1000000000}`: true, `{}`: true, "{}\n": true, `{} {}`: false, `{}]`: false, `[]`: false,
+		`{"stor": "o.db"}`: false, `{"retry_seconds": 0}`: false, `{"deadline_seconds": -1}`: false, `{"retry_seconds": 1e300}`: false, ``: false,
+	} {
+		if err := os.WriteFile(file, []byte(content), 0o600); err != nil {
+			t.Fatal(err)
+		}
+		if config, err := Read(file); (err == nil) != isOne {
+			t.Errorf("%s: %+v, %v", content, config, err)
+		}
+	}
+	carrier, err := connect(Config{DeadlineSeconds: 0.1})
+	if err != nil {
+		t.Fatal(err)
+	}
+	defer carrier.close()
+	frame, err := frames.Call{Number: frames.Number{Session: 1, Call: 1}, Body: frames.DeleteVolume{ID: 1}}.Encode()
+	if err != nil {
+		t.Fatal(err)
+	}
+	if _, err := carrier.carry(context.Background(), Sending{Frame: hex.EncodeToString(frame), Plugin: "controller"}); err == nil {
+		t.Error("a controller without a socket is called")
 	}
 }
