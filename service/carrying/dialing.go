@@ -52,13 +52,9 @@ func (peers Peers) Dial(plugin, address string, connects func() uint64) (*grpc.C
 	return grpc.Dial(target, append(options, more...)...)
 }
 
-// Target is what gRPC dials to reach whoever serves at an address, or at those of several, with commas between. A Unix socket is on this machine: for it
-// gRPC, which takes its path for a host's name, doesn't ask the proxy that the environment has.
+// Target is what gRPC dials to reach whoever serves at an address, or at those of several, with commas between.
 func Target(address string) (string, []grpc.DialOption) {
-	var options []grpc.DialOption
-	if IsLocal(address) {
-		options = append(options, grpc.WithNoProxy())
-	}
+	options := secure.ToSocket(address)
 	addresses := strings.Split(address, ",")
 	if len(addresses) == 1 {
 		return address, options

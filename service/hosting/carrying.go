@@ -18,6 +18,7 @@ import (
 
 	"tufayon/service/frames"
 	"tufayon/service/numbers"
+	"tufayon/service/secure"
 	"tufayon/service/translate"
 )
 
@@ -83,7 +84,7 @@ func connect(config Config) (*carrier, error) {
 		if endpoint == "" {
 			continue
 		}
-		connection, err := grpc.Dial(endpoint, grpc.WithInsecure(), grpc.WithNoProxy(), grpc.WithConnectParams(reconnecting))
+		connection, err := grpc.Dial(endpoint, append(secure.ToSocket(endpoint), grpc.WithInsecure(), grpc.WithConnectParams(reconnecting))...)
 		if err != nil {
 			carrier.close()
 			return nil, fmt.Errorf("%s: %w", plugin, err)

@@ -1,12 +1,16 @@
 package secure
 
 import (
+	"context"
 	"errors"
 	"fmt"
 	"net"
 	"os"
 	"path/filepath"
+	"strings"
 	"syscall"
+
+	"google.golang.org/grpc"
 )
 
 // Listen makes a Unix socket that every user may connect to: the kernel says who does, and Local refuses those who may not. A socket that an earlier
@@ -39,4 +43,18 @@ func IsServed(path string) bool {
 		other.Close()
 	}
 	return err == nil || errors.Is(err, syscall.EAGAIN)
+}
+
+// atSocket is what the address of a Unix socket begins with; its path follows as it is.
+const atSocket = "unix://"
+
+// ToSocket are the options by which a client reaches a Unix socket: gRPC by itself takes %, ? and # in its path for a URL's, and asks the proxy that the
+// environment has for it. Of any other address there are none.
+func ToSocket(address string) []grpc.DialOption {
+	if !strings.HasPrefix(address, atSocket) {
+		return nil
+	}
+	return []grpc.DialOption{grpc.WithContextDialer(func(ctx context.Context, address string) (net.Conn, error) {
+		return (&net.Dialer{}).DialContext(ctx, "unix", strings.TrimPrefix(address, atSocket))
+	})}
 }

@@ -24,6 +24,7 @@ import (
 	"google.golang.org/grpc/status"
 
 	"tufayon/service/numbers"
+	"tufayon/service/secure"
 	"tufayon/service/version"
 	_ "tufayon/service/wire" // the messages
 )
@@ -65,7 +66,7 @@ func call(ctx context.Context, endpoint, name, text string) error {
 			return status.Error(codes.InvalidArgument, err.Error())
 		}
 	}
-	connection, err := grpc.DialContext(ctx, endpoint, grpc.WithInsecure(), grpc.WithNoProxy())
+	connection, err := grpc.DialContext(ctx, endpoint, append(secure.ToSocket(endpoint), grpc.WithInsecure())...)
 	if err != nil {
 		return err
 	}
