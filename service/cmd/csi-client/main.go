@@ -78,7 +78,9 @@ func call(ctx context.Context, endpoint, name, text string) error {
 	if err != nil {
 		return err
 	}
-	fmt.Println(line)
+	if _, err := fmt.Println(line); err != nil {
+		return status.Errorf(codes.DataLoss, "the response can't be printed: %v", err)
+	}
 	return nil
 }
 
