@@ -28,6 +28,7 @@ func main() {
 	if err != nil {
 		end(1, err)
 	}
+	hosting.OutliveReader()
 	ctx, stop := signal.NotifyContext(context.Background(), syscall.SIGINT, syscall.SIGTERM)
 	defer stop()
 	if err := serve(ctx, config, *program); err != nil {
