@@ -208,6 +208,41 @@ func TestReached(t *testing.T) {
 	}
 }
 
+// A plugin at a Unix socket is reached without the proxy that the environment has, and so is one of several.
+func TestProxy(t *testing.T) {
+	if !carryingtest.HasProxy(t) {
+		return
+	}
+	node := (&carryingtest.Plugin{Node: "n1"}).Serve(t, socket(t, "n1"), nil)
+	controller := (&carryingtest.Plugin{}).Serve(t, socket(t, "c"), nil)
+	carrier := carry(t, carrying.Peers{}, carrying.Limits{}, map[string]string{
+		"node:n1": node.Address, carrying.Controller: socket(t, "d") + "," + controller.Address,
+	})
+	if _, err := carrier.Carry(ctx, stage("n1"), time.Now().Add(within)); err != nil {
+		t.Errorf("a node: %v", err)
+	}
+	remove := frames.Call{Number: frames.Number{Session: 1, Call: 1}, Body: frames.DeleteVolume{ID: 1}}
+	if _, err := carrier.Carry(ctx, remove, time.Now().Add(within)); err != nil {
+		t.Errorf("a controller: %v", err)
+	}
+}
+
+// A plugin at a Unix socket is reached whatever stands in the socket's path, also where that is a part of a URL by itself.
+func TestPaths(t *testing.T) {
+	for _, name := range []string{"100%", "a%20b", "a?b", "a#b", "a b", "a:b", "\u00e4"} {
+		plugin := (&carryingtest.Plugin{Node: "n1"}).Serve(t, socket(t, name), nil)
+		for plugin, address := range map[string]string{"node:n1": plugin.Address, carrying.Controller: socket(t, "c") + "," + plugin.Address} {
+			carrier, call := carry(t, carrying.Peers{}, carrying.Limits{}, map[string]string{plugin: address}), stage("n1")
+			if plugin == carrying.Controller {
+				call = frames.Call{Number: frames.Number{Session: 1, Call: 1}, Body: frames.DeleteVolume{ID: 1}}
+			}
+			if _, err := carrier.Carry(ctx, call, time.Now().Add(within)); err != nil {
+				t.Errorf("%s at %q: %v", plugin, name, err)
+			}
+		}
+	}
+}
+
 // otherIsThere makes calls at a node until it is found that another one is there: until a connection is there, they fail otherwise. Each has to fail.
 func otherIsThere(t *testing.T, carrier *carrying.Carrier, node string) {
 	t.Helper()

@@ -54,9 +54,10 @@ func (peers Peers) Dial(plugin, address string, connects func() uint64) (*grpc.C
 
 // Target is what gRPC dials to reach whoever serves at an address, or at those of several, with commas between.
 func Target(address string) (string, []grpc.DialOption) {
+	options := secure.ToSocket(address)
 	addresses := strings.Split(address, ",")
 	if len(addresses) == 1 {
-		return address, nil
+		return address, options
 	}
 	var state resolver.State
 	for _, it := range addresses {
@@ -64,7 +65,7 @@ func Target(address string) (string, []grpc.DialOption) {
 	}
 	all := manual.NewBuilderWithScheme("tufayon")
 	all.InitialState(state)
-	return "tufayon:///several", []grpc.DialOption{grpc.WithResolvers(all)}
+	return "tufayon:///several", append(options, grpc.WithResolvers(all))
 }
 
 func (peers Peers) credentials(plugin, address string) (credentials.TransportCredentials, error) {

@@ -46,8 +46,13 @@ func TestLines(t *testing.T) {
 	if _, err := time.Parse(time.RFC3339Nano, first.Ts); err != nil || first.Level != "warn" || first.Volume != "a\nb\"\u2028" || first.Took != 1.5 {
 		t.Errorf("%+v, %v", first, err)
 	}
-	if _, err := Logger("loud"); err == nil {
-		t.Error("another level")
+	for _, level := range []string{"loud", "fatal", "INFO"} {
+		if _, err := Logger(level); err == nil {
+			t.Errorf("another level, %s", level)
+		}
+	}
+	if debug, err := Logger("debug"); err != nil || !debug.Core().Enabled(zapcore.DebugLevel) {
+		t.Errorf("debug: %v", err)
 	}
 }
 
@@ -64,8 +69,9 @@ func TestJournal(t *testing.T) {
 	}})
 	log := zap.New(core).With(zap.String("set", "s1"))
 	log.Debug("nothing")
-	log.Error("a call", zap.String("volume", "a\nb"), zap.Error(errors.New("no reply")), zap.Uint64("call", 7))
-	want := `a call {"call":"7","error":"no reply","set":"s1","volume":"a\nb"} 3 map[TUFAYON_CALL:7 TUFAYON_ERROR:no reply TUFAYON_SET:s1 TUFAYON_VOLUME:a` + "\nb]"
+	log.Error("a call", zap.String("volume", "a\nb"), zap.Error(errors.New("no reply")), zap.Uint64("call", 7), zap.Duration("took", 1500*time.Microsecond))
+	want := `a call {"call":"7","error":"no reply","set":"s1","took":"0.0015","volume":"a\nb"} 3 map[TUFAYON_CALL:7 TUFAYON_ERROR:no reply TUFAYON_SET:s1 ` +
+		"TUFAYON_TOOK:0.0015 TUFAYON_VOLUME:a\nb]"
 	if len(said) != 1 || said[0] != want {
 		t.Errorf("it is %q", said)
 	}

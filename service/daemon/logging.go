@@ -17,20 +17,40 @@ import (
 // Levels are those that a log may have: what is below isn't told.
 var Levels = []string{"debug", "info", "warn", "error"}
 
+// IsLevel says whether a text is one of them.
+func IsLevel(text string) bool {
+	for _, it := range Levels {
+		if it == text {
+			return true
+		}
+	}
+	return false
+}
+
 // Logger makes a log of a level, info where that is empty, in which each event is a line, and none is left out: of JSON, to standard error; or where
 // that is systemd's journal, to there, with a field for each key (TUFAYON_VOLUME, ..). It has to be synchronised at the end: an event below a warning is
 // written a moment after it was logged.
 func Logger(level string) (*zap.Logger, error) {
-	least := zapcore.InfoLevel
-	if level != "" {
-		if err := least.Set(level); err != nil {
-			return nil, err
-		}
+	least, err := leastOf(level)
+	if err != nil {
+		return nil, err
 	}
 	if isJournal() {
 		return zap.New(hold(least, &toJournal{send: journal.Send})), nil
 	}
 	return LoggerTo(os.Stderr, least), nil
+}
+
+// leastOf is the level that a text says: none but those of Levels, since zap has some above all that is logged.
+func leastOf(level string) (zapcore.Level, error) {
+	least := zapcore.InfoLevel
+	if level == "" {
+		return least, nil
+	}
+	if !IsLevel(level) {
+		return least, fmt.Errorf("%q is none of %s", level, strings.Join(Levels, ", "))
+	}
+	return least, least.Set(level)
 }
 
 // LoggerTo makes a log of lines of JSON, from a level on.
@@ -75,7 +95,7 @@ func (it *toJournal) add(entry zapcore.Entry, fields []zapcore.Field) (isFull bo
 	}
 	made := message{entry.Message, journal.PriCrit, make(map[string]string, len(encoder.Fields)+1)}
 	for key, value := range encoder.Fields {
-		text := fmt.Sprint(value)
+		text := textFor(value)
 		made.variables["TUFAYON_"+strings.ToUpper(key)], encoder.Fields[key] = text, text
 	}
 	made.variables["TUFAYON_TS"] = entry.Time.Format(time.RFC3339Nano) // the journal's own time is that of the writing
@@ -91,6 +111,14 @@ func (it *toJournal) add(entry zapcore.Entry, fields []zapcore.Field) (isFull bo
 	}
 	it.messages = append(it.messages, made)
 	return len(it.messages) >= mostMessages, nil
+}
+
+// textFor is a field's value as the journal gets it: how long something took in seconds, as in a line of JSON.
+func textFor(value any) string {
+	if it, is := value.(time.Duration); is {
+		return string(appendSeconds(nil, int64(it)))
+	}
+	return fmt.Sprint(value)
 }
 
 // take gives what sends the messages, and tells the first fault.

@@ -4,7 +4,6 @@ import (
 	"context"
 	"errors"
 	"fmt"
-	"sort"
 	"strings"
 	"sync"
 	"time"
@@ -39,6 +38,7 @@ type Anew struct {
 
 	mutex sync.Mutex
 	left  map[uint64]*one // what isn't done yet
+	all   []uint64        // what wasn't when it began, by rising id
 }
 
 // NewAnew makes one that has nothing to do.
@@ -61,10 +61,8 @@ func (anew *Anew) Begin(ctx context.Context, core *serving.Core) (tried, done <-
 	}
 	all, first := make(chan struct{}), make(chan struct{})
 	var ones, firsts sync.WaitGroup
-	places := make(chan struct{}, mostAnew)
-	for _, volume := range volumes {
-		one := &one{anew: anew, core: core, volume: volume, places: places, wakes: make(chan struct{}, 1)}
-		anew.note(one, nil)
+	for _, one := range anew.expect(core, volumes) {
+		one := one
 		ones.Add(1)
 		firsts.Add(1)
 		go func() {
@@ -81,6 +79,20 @@ func (anew *Anew) Begin(ctx context.Context, core *serving.Core) (tried, done <-
 		}
 	}()
 	return first, all, nil
+}
+
+// expect notes that something is to be done of volumes, by rising id: of all at once, since each time all are told.
+func (anew *Anew) expect(core *serving.Core, volumes []uint64) []*one {
+	anew.mutex.Lock()
+	defer anew.mutex.Unlock()
+	ones, places := make([]*one, 0, len(volumes)), make(chan struct{}, mostAnew)
+	for _, volume := range volumes {
+		it := &one{anew: anew, core: core, volume: volume, places: places, wakes: make(chan struct{}, 1)}
+		ones, anew.left[volume] = append(ones, it), it
+	}
+	anew.all = volumes
+	anew.backend.tellTrouble(anew.trouble())
+	return ones
 }
 
 // one is a volume of which something is to be done anew.
@@ -169,23 +181,13 @@ func at(path string, err error) error {
 	return fmt.Errorf("%s: %w", path, err)
 }
 
-// note notes what is to be done of a volume, and why it failed.
-func (anew *Anew) note(one *one, why error) {
-	anew.mutex.Lock()
-	defer anew.mutex.Unlock()
-	one.why, anew.left[one.volume] = why, one
-	anew.backend.tellTrouble(anew.trouble())
-}
-
 // end notes what came of a volume's.
 func (anew *Anew) end(one *one, err error) {
-	if err != nil {
-		anew.note(one, err)
-		return
-	}
 	anew.mutex.Lock()
 	defer anew.mutex.Unlock()
-	delete(anew.left, one.volume)
+	if one.why = err; err == nil {
+		delete(anew.left, one.volume)
+	}
 	anew.backend.tellTrouble(anew.trouble())
 }
 
@@ -237,7 +239,11 @@ func (anew *Anew) trouble() Trouble {
 // unmounted are the volumes of which something isn't done yet, by rising id, with why. The lock is held.
 func (anew *Anew) unmounted() []Unmounted {
 	all := make([]Unmounted, 0, len(anew.left))
-	for volume, one := range anew.left {
+	for _, volume := range anew.all {
+		one := anew.left[volume]
+		if one == nil {
+			continue
+		}
 		why := "it isn't mounted yet"
 		if one.why != nil {
 			why = one.why.Error()
@@ -247,7 +253,6 @@ func (anew *Anew) unmounted() []Unmounted {
 		}
 		all = append(all, Unmounted{volume, why})
 	}
-	sort.Slice(all, func(i, j int) bool { return all[i].Volume < all[j].Volume })
 	return all
 }
 

@@ -8,6 +8,8 @@ import (
 	"path/filepath"
 	"strings"
 	"syscall"
+
+	"tufayon/service/secure"
 )
 
 // ErrSocket says that the socket can't be made where nobody else gets in.
@@ -30,8 +32,7 @@ func Listen(path string) (net.Listener, error) {
 	if err := guarded(filepath.Dir(path)); err != nil {
 		return nil, err
 	}
-	if other, err := net.Dial("unix", path); err == nil {
-		other.Close()
+	if secure.IsServed(path) {
 		return nil, fmt.Errorf("%w: %s is served by another process", ErrSocket, path)
 	}
 	if left, err := os.Lstat(path); err == nil && left.Mode()&os.ModeSocket != 0 {

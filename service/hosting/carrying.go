@@ -1,9 +1,14 @@
 package hosting
 
 import (
+	"bytes"
 	"context"
 	"encoding/hex"
+	"encoding/json"
+	"errors"
 	"fmt"
+	"io"
+	"os"
 	"strings"
 	"time"
 
@@ -13,6 +18,7 @@ import (
 
 	"tufayon/service/frames"
 	"tufayon/service/numbers"
+	"tufayon/service/secure"
 	"tufayon/service/translate"
 )
 
@@ -25,6 +31,32 @@ type Config struct {
 	Staging         string            `json:"staging"`    // the folder below which volumes are staged, each under its id
 	DeadlineSeconds float64           `json:"deadline_seconds"`
 	RetrySeconds    float64           `json:"retry_seconds"`
+}
+
+// mostSeconds is how long anything may take at most.
+const mostSeconds = 1e9
+
+// Read reads the file of a Config: one object, with what its keys may have.
+func Read(file string) (Config, error) {
+	config := Config{DeadlineSeconds: 60, RetrySeconds: 1}
+	content, err := os.ReadFile(file)
+	if err != nil {
+		return config, err
+	}
+	decoder := json.NewDecoder(bytes.NewReader(content))
+	decoder.DisallowUnknownFields()
+	if err := decoder.Decode(&config); err != nil {
+		return config, err
+	}
+	if _, err := decoder.Token(); err != io.EOF {
+		return config, errors.New("something stands behind the object")
+	}
+	for _, it := range []float64{config.DeadlineSeconds, config.RetrySeconds} {
+		if it <= 0 || it > mostSeconds {
+			return config, fmt.Errorf("nothing may take %v seconds", it)
+		}
+	}
+	return config, nil
 }
 
 func seconds(count float64) time.Duration { return time.Duration(count * float64(time.Second)) }
@@ -41,7 +73,7 @@ var reconnecting = grpc.ConnectParams{
 	MinConnectTimeout: time.Second,
 }
 
-// connect makes a connection to each driver, which is used whenever the driver is there.
+// connect makes a connection to each driver that has a socket, which is used whenever the driver is there.
 func connect(config Config) (*carrier, error) {
 	carrier := &carrier{config: config, connections: map[string]*grpc.ClientConn{}}
 	endpoints := map[string]string{"controller": config.Controller}
@@ -49,7 +81,10 @@ func connect(config Config) (*carrier, error) {
 		endpoints["node:"+node] = endpoint
 	}
 	for plugin, endpoint := range endpoints {
-		connection, err := grpc.Dial(endpoint, grpc.WithInsecure(), grpc.WithConnectParams(reconnecting))
+		if endpoint == "" {
+			continue
+		}
+		connection, err := grpc.Dial(endpoint, append(secure.ToSocket(endpoint), grpc.WithInsecure(), grpc.WithConnectParams(reconnecting))...)
 		if err != nil {
 			carrier.close()
 			return nil, fmt.Errorf("%s: %w", plugin, err)

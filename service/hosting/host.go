@@ -37,9 +37,9 @@ type event struct {
 	losses    int // how often a node had been lost when the call was made
 }
 
-// mayBeLoss says whether it may be the command that declares a node lost.
+// mayBeLoss says whether it may be the command that declares a node lost, whose key may be written with escapes.
 func (event event) mayBeLoss() bool {
-	return event.isCommand && bytes.Contains(event.line, []byte("lose"))
+	return event.isCommand && (bytes.Contains(event.line, []byte("lose")) || bytes.IndexByte(event.line, '\\') >= 0)
 }
 
 // Serve has each line of the input, a command, answered by an orchestrator that has just been made, whose first line this is, and prints its answers

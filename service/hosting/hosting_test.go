@@ -7,6 +7,7 @@ import (
 	"errors"
 	"fmt"
 	"net"
+	"os"
 	"path/filepath"
 	"strings"
 	"sync/atomic"
@@ -18,6 +19,7 @@ import (
 	"google.golang.org/grpc/codes"
 	"google.golang.org/grpc/status"
 
+	"tufayon/service/carrying/carryingtest"
 	"tufayon/service/frames"
 )
 
@@ -57,11 +59,12 @@ func (output *slowly) Write(text []byte) (int, error) {
 // Lines that wait are answered together, in their order, and a loss ends a group; where the orchestrator fails, what it answered before is printed.
 func TestTogether(t *testing.T) {
 	var input, want strings.Builder
+	losses := []string{`{"lose":"n1"}`, `{"l\u006fse":"n1"}`}
 	want.WriteString("first\n")
 	for at := 0; at < 200; at++ {
 		line := fmt.Sprintf(`{"create":"v%d"}`, at)
 		if at%50 == 7 {
-			line = `{"lose":"n1"}`
+			line = losses[at/50%2]
 		}
 		fmt.Fprintln(&input, line)
 		fmt.Fprintf(&want, "answer to %s\n", line)
@@ -79,7 +82,7 @@ func TestTogether(t *testing.T) {
 		from := 0
 		for _, count := range orchestrator.groups {
 			for at := from; at < from+count-1; at++ {
-				if at < len(orchestrator.lines) && strings.Contains(orchestrator.lines[at], "lose") {
+				if at < len(orchestrator.lines) && (orchestrator.lines[at] == losses[0] || orchestrator.lines[at] == losses[1]) {
 					t.Errorf("line %d, a loss, is in the midst of a group", at)
 				}
 			}
@@ -149,6 +152,26 @@ func TestReconnecting(t *testing.T) {
 	}
 }
 
+// A driver's socket is reached without the proxy that the environment has.
+func TestProxy(t *testing.T) {
+	if !carryingtest.HasProxy(t) {
+		return
+	}
+	driver := (&carryingtest.Plugin{}).Serve(t, "unix://"+filepath.Join(t.TempDir(), "csi.sock"), nil)
+	carrier, err := connect(Config{Controller: driver.Address, DeadlineSeconds: 5})
+	if err != nil {
+		t.Fatal(err)
+	}
+	defer carrier.close()
+	frame, err := frames.Call{Number: frames.Number{Session: 1, Call: 1}, Body: frames.DeleteVolume{ID: 1}}.Encode()
+	if err != nil {
+		t.Fatal(err)
+	}
+	if reply, err := carrier.carry(context.Background(), Sending{Frame: hex.EncodeToString(frame), Plugin: "controller"}); err != nil || reply == nil {
+		t.Errorf("it replied %x, %v", reply, err)
+	}
+}
+
 // creating is an orchestrator that wants a volume, and sends the call that makes it at each timeout.
 type creating struct {
 	send  Sending
@@ -187,5 +210,33 @@ func TestRefusedAtOnce(t *testing.T) {
 	Serve(ctx, config, wants, Answer{Line: []byte("first\n"), Wanted: []string{"v"}}, strings.NewReader(""), &bytes.Buffer{})
 	if count := atomic.LoadInt32(&wants.asked); count < 2 || count > 7 {
 		t.Errorf("in a second it is asked %d times", count)
+	}
+}
+
+// A file is one object, whose times are some; a plugin without a socket in it can't be called.
+func TestRead(t *testing.T) {
+	file := filepath.Join(t.TempDir(), "host.json")
+	for content, isOne := range map[string]bool{
+		`{"store": "o.db", "retry_seconds": 0.1, "deadline_seconds": 1000000000}`: true, `{}`: true, "{}\n": true, `{} {}`: false, `{}]`: false, `[]`: false,
+		`{"stor": "o.db"}`: false, `{"retry_seconds": 0}`: false, `{"deadline_seconds": -1}`: false, `{"retry_seconds": 1e300}`: false, ``: false,
+	} {
+		if err := os.WriteFile(file, []byte(content), 0o600); err != nil {
+			t.Fatal(err)
+		}
+		if config, err := Read(file); (err == nil) != isOne {
+			t.Errorf("%s: %+v, %v", content, config, err)
+		}
+	}
+	carrier, err := connect(Config{DeadlineSeconds: 0.1})
+	if err != nil {
+		t.Fatal(err)
+	}
+	defer carrier.close()
+	frame, err := frames.Call{Number: frames.Number{Session: 1, Call: 1}, Body: frames.DeleteVolume{ID: 1}}.Encode()
+	if err != nil {
+		t.Fatal(err)
+	}
+	if _, err := carrier.carry(context.Background(), Sending{Frame: hex.EncodeToString(frame), Plugin: "controller"}); err == nil {
+		t.Error("a controller without a socket is called")
 	}
 }

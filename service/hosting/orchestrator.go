@@ -5,6 +5,9 @@ import (
 	"encoding/json"
 	"errors"
 	"fmt"
+	"os"
+	"os/signal"
+	"syscall"
 
 	"tufayon/service/lines"
 	"tufayon/service/numbers"
@@ -58,6 +61,10 @@ func answerOf(line []byte) (Answer, error) {
 	}
 	return answer, nil
 }
+
+// OutliveReader has what is written fail where nobody reads it any more, so that it is told and ends in order, as csi-replay does: Go would end the process
+// by SIGPIPE. What it starts isn't concerned.
+func OutliveReader() { signal.Notify(make(chan os.Signal, 1), syscall.SIGPIPE) }
 
 // StatusOf is the exit status of an end, as csi-replay's.
 func StatusOf(err error) int {

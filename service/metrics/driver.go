@@ -60,7 +60,7 @@ func NewDriver(program, plugin string) *Driver {
 	}
 	made.sessions.WithLabelValues(laterHeard)
 	made.sessions.WithLabelValues(earlierHeard)
-	prometheus.WrapRegistererWith(prometheus.Labels{"plugin": plugin}, made.registry).MustRegister(made.calls, made.repeated, made.stale, made.sessions, made.deeds,
+	prometheus.WrapRegistererWith(prometheus.Labels{"plugin": label(plugin)}, made.registry).MustRegister(made.calls, made.repeated, made.stale, made.sessions, made.deeds,
 		made.callSeconds, made.deedSeconds, made.commitSeconds, made.commitFailures, made)
 	return made
 }

@@ -3,6 +3,7 @@ package metrics
 
 import (
 	"net/http"
+	"strings"
 	"time"
 
 	"github.com/prometheus/client_golang/prometheus"
@@ -65,8 +66,14 @@ func describe(subsystem, name, help string, labels ...string) *prometheus.Desc {
 }
 
 func gauge(desc *prometheus.Desc, value float64, labels ...string) prometheus.Metric {
+	for at, it := range labels {
+		labels[at] = label(it)
+	}
 	return prometheus.MustNewConstMetric(desc, prometheus.GaugeValue, value, labels...)
 }
+
+// label is a text as a label's value: one that isn't UTF-8, as a path or a word of a command line may be, would end the process.
+func label(text string) string { return strings.ToValidUTF8(text, "\ufffd") }
 
 func flag(is bool) float64 {
 	if is {

@@ -185,3 +185,11 @@ func TestDriver(t *testing.T) {
 		}
 	}
 }
+
+// A node's id that isn't UTF-8, which is refused later, and such a path of a certificate end nothing.
+func TestLabels(t *testing.T) {
+	made := NewDriver("csi-driver", "node:\xff")
+	made.Ends = func() map[string]time.Time { return map[string]time.Time{"/\xfe/c.pem": time.Unix(1000, 0)} }
+	wants(t, scraped(t, made.Handler()), "tufayon_driver_ready{plugin=\"node:\ufffd\"} 0",
+		"tufayon_driver_certificate_expiry_timestamp_seconds{file=\"/\ufffd/c.pem\",plugin=\"node:\ufffd\"} 1000")
+}

@@ -30,8 +30,13 @@ var ErrUsage = errors.New("usage")
 // Signals gives a context that ends with SIGINT or SIGTERM. SIGHUP ends no process, also where it comes before it can read its files anew, or once it ends.
 func Signals() (context.Context, context.CancelFunc) {
 	signal.Notify(make(chan os.Signal, 1), syscall.SIGHUP)
+	OutliveReader()
 	return signal.NotifyContext(context.Background(), syscall.SIGINT, syscall.SIGTERM)
 }
+
+// OutliveReader has the process go on where nobody reads its standard error any more, as where what keeps its log ended: Go would end it by SIGPIPE at the
+// next line. What it starts isn't concerned: there the signal does what it does by itself.
+func OutliveReader() { signal.Notify(make(chan os.Signal, 1), syscall.SIGPIPE) }
 
 // StatusOf is the exit status of an end.
 func StatusOf(err error) int {

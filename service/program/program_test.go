@@ -1,6 +1,7 @@
 package program
 
 import (
+	"errors"
 	"os"
 	"os/exec"
 	"os/signal"
@@ -31,6 +32,35 @@ func TestSignals(t *testing.T) {
 	hangUp()
 	if len(anew) != 1 || ctx.Err() != nil {
 		t.Errorf("it came %d times to who wants it, and %v", len(anew), ctx.Err())
+	}
+}
+
+const unread = "TUFAYON_TEST_UNREAD" // in the environment of the process whose standard error nobody reads
+
+// A process goes on whose standard error nobody reads any more, and what it starts is ended by such a pipe, as ever.
+func TestUnread(t *testing.T) {
+	if os.Getenv(unread) != "" {
+		_, stop := Signals()
+		defer stop()
+		if _, err := os.Stderr.WriteString("a line\n"); !errors.Is(err, syscall.EPIPE) {
+			t.Errorf("it is written: %v", err)
+		}
+		started := exec.Command("sh", "-c", "kill -s PIPE $$")
+		if err := started.Run(); err == nil || started.ProcessState.String() != "signal: broken pipe" {
+			t.Errorf("what it starts: %v", err)
+		}
+		return
+	}
+	reader, writer, err := os.Pipe()
+	if err != nil {
+		t.Fatal(err)
+	}
+	defer writer.Close()
+	reader.Close()
+	process := exec.Command("/proc/self/exe", "-test.run", "^TestUnread$")
+	process.Env, process.Stderr = append(os.Environ(), unread+"=1"), writer
+	if said, err := process.Output(); err != nil {
+		t.Errorf("%v: %s", err, said)
 	}
 }
 

@@ -13,6 +13,7 @@ import (
 	"testing"
 	"time"
 
+	"golang.org/x/sys/unix"
 	"google.golang.org/grpc"
 	"google.golang.org/grpc/codes"
 	"google.golang.org/grpc/credentials"
@@ -372,4 +373,32 @@ func TestListen(t *testing.T) {
 		t.Fatal(err)
 	}
 	second.Close()
+}
+
+// So isn't the socket of a process that hangs, at which so many wait that no more may.
+func TestListenAtFull(t *testing.T) {
+	path := filepath.Join(t.TempDir(), "socket")
+	hangs, err := unix.Socket(unix.AF_UNIX, unix.SOCK_STREAM|unix.SOCK_CLOEXEC, 0)
+	if err != nil {
+		t.Fatal(err)
+	}
+	defer unix.Close(hangs)
+	if err = unix.Bind(hangs, &unix.SockaddrUnix{Name: path}); err == nil {
+		err = unix.Listen(hangs, 0)
+	}
+	for err == nil {
+		var waits net.Conn
+		if waits, err = net.Dial("unix", path); err == nil {
+			defer waits.Close()
+		}
+	}
+	if !errors.Is(err, unix.EAGAIN) {
+		t.Fatal(err)
+	}
+	if _, err := secure.Listen(path); err == nil {
+		t.Error("it is served twice")
+	}
+	if _, err := net.Dial("unix", path); !errors.Is(err, unix.EAGAIN) {
+		t.Errorf("it was taken away: %v", err)
+	}
 }

@@ -190,7 +190,7 @@ func (place *Place) checkWatch(to *checking) {
 			to.refuse("watch", "%q isn't on loopback: there has to be a certificate", place.Watch)
 		}
 	}
-	if place.Log != "" && !strings.Contains(" "+strings.Join(daemon.Levels, " ")+" ", " "+place.Log+" ") {
+	if place.Log != "" && !daemon.IsLevel(place.Log) {
 		to.refuse("log", "%q is none of %s", place.Log, strings.Join(daemon.Levels, ", "))
 	}
 }

@@ -100,7 +100,7 @@ func TestFaults(t *testing.T) {
 			`process.json: watch: "10.0.0.1:9480" isn't on loopback`, `process.json: log: "loud" is none of debug, info, warn, error`,
 		}},
 		{set, `{"set": "set.json", "store": "s", "listen": "unix:///o", "watch": "unix:///o"}`, []string{`process.json: watch: "unix:///o" is that of listen too`}},
-		{set, `{"set": "set.json", "store": "s", "listen": "unix:///o", "watch": ":9480", "log": "war"}`, []string{`watch: ":9480" is neither`, `isn't on loopback`, `log: "war"`}},
+		{set, `{"set": "set.json", "store": "s", "listen": "unix:///o", "watch": ":9480", "log": "info warn"}`, []string{`watch: ":9480" is neither`, `isn't on loopback`, `log: "info warn"`}},
 		{set, `{"set": "set.json", "listen": "unix:///o"}`, []string{"process.json: store: either this file is there, or etcd"}},
 		{set, `{"set": "set.json", "listen": "unix:///o", "store": "s", "etcd": {"ca": "ca.pem"}}`, []string{
 			"store: either", "etcd.endpoints: there are none", "etcd.prefix: it is missing", "etcd.certificate: ca, certificate and key", "etcd.lease: 0 isn't above 0",

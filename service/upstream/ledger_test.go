@@ -12,6 +12,7 @@ import (
 	"google.golang.org/grpc"
 	"google.golang.org/grpc/codes"
 
+	"tufayon/service/carrying/carryingtest"
 	"tufayon/service/identities"
 	"tufayon/service/store"
 	"tufayon/service/upstream"
@@ -295,6 +296,13 @@ func TestOthers(t *testing.T) {
 		"/csi.v1.Controller/ValidateVolumeCapabilities",
 	} {
 		box.does(ctx, method, creates("anything"))
+	}
+}
+
+// The upstream's socket is reached without the proxy that the environment has.
+func TestProxy(t *testing.T) {
+	if carryingtest.HasProxy(t) {
+		newBox(t, upstream.Options{}).start().does(soon(t), "/csi.v1.Identity/Probe", creates("anything"))
 	}
 }
 

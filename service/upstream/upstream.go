@@ -21,6 +21,7 @@ import (
 	"tufayon/service/limiting"
 	"tufayon/service/passing"
 	"tufayon/service/plugin"
+	"tufayon/service/secure"
 	"tufayon/service/serving"
 )
 
@@ -52,12 +53,12 @@ type Proxy struct {
 
 // New makes a proxy, which connects to its upstream once there are calls, and again where it is gone.
 func New(options Options) (*Proxy, error) {
-	connection, err := grpc.Dial(options.Address, grpc.WithInsecure(), grpc.WithDisableServiceConfig(), grpc.WithDisableRetry(),
-		grpc.WithAuthority("localhost"), grpc.WithMaxHeaderListSize(maxMetadata), grpc.WithInitialWindowSize(passing.Window),
+	connection, err := grpc.Dial(options.Address, append(secure.ToSocket(options.Address), grpc.WithInsecure(), grpc.WithDisableServiceConfig(),
+		grpc.WithDisableRetry(), grpc.WithAuthority("localhost"), grpc.WithMaxHeaderListSize(maxMetadata), grpc.WithInitialWindowSize(passing.Window),
 		grpc.WithInitialConnWindowSize(passing.Window), grpc.WithConnectParams(grpc.ConnectParams{
 			Backoff:           backoff.Config{BaseDelay: 50 * time.Millisecond, Multiplier: 1.6, Jitter: 0.2, MaxDelay: time.Second},
 			MinConnectTimeout: 5 * time.Second,
-		}))
+		}))...)
 	if err != nil {
 		return nil, fmt.Errorf("the upstream %s: %w", options.Address, err)
 	}

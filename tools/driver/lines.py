@@ -1,11 +1,13 @@
 """The orchestrator over the library, by its lines: the cases that `csi-replay orchestrator` has, and drawn lines, which both are asked."""
 import json
+import os
 import random
 import re
+import subprocess
 
 import embed
 from program import changes, orchestrators, stores
-from program.running import Box, Running, wanted
+from program.running import LIMIT, Box, Running, wanted
 
 
 class OverLibrary(Box):
@@ -90,7 +92,22 @@ def alike(sessions, requests, seed):
     return body
 
 
+def unread(box):
+    """Where nobody reads what they write both end alike, and close their stores."""
+    box.put("config", json.dumps({"greatest": 1, "nodes": []}))
+    for words in ([box.program, "orchestrator", "theirs.db", "config"], [f"{box.built}/csi-orchestrator", "ours.db", "config"]):
+        reading, writing = os.pipe()
+        running = subprocess.Popen(words, cwd=box.folder, stdin=subprocess.PIPE, stdout=writing, stderr=subprocess.PIPE)
+        os.close(writing)
+        wanted("the first line", os.read(reading, 4096), b'{"session":1,"wanted":[]}\n')
+        os.close(reading)
+        _, error = running.communicate(b'{"delete":"v"}\n', timeout=LIMIT)
+        wanted(f"how {words[0]} ends", (running.returncode, told(error)), (3, b"csi-replay: device\n"))
+        OverLibrary(box).is_closed(words[-2], error)
+
+
 def cases(drawn, seed):
     for name, body, *rest in (*orchestrators.ROWS, *changes.ROWS):
         yield f"lines: {name}", lambda box, body=body, rest=rest: body(OverLibrary(box), *rest)
+    yield "lines: nobody reads", unread
     yield "lines: drawn", alike(16, drawn // 10, seed)

@@ -171,6 +171,9 @@ def client(box):
     ):
         ran = subprocess.run([*words, *more], capture_output=True, timeout=LIMIT, check=False, text=True)
         wanted(f"{more}", (ran.returncode, ran.stdout, ran.stderr), (status, out, error))
+    with open("/dev/full", "wb") as full:
+        ran = subprocess.run([*words, "Probe"], stdout=full, stderr=subprocess.PIPE, timeout=LIMIT, check=False, text=True)
+    wanted("a full disk", (ran.returncode, ran.stderr[:54]), (15, "csi-client: 15 DataLoss \"the response can't be printed"))
     put_to_sleep(driver.process)
     ran = subprocess.run([*words, "-seconds", "1", "Probe"], capture_output=True, timeout=LIMIT, check=False, text=True)
     wanted("a driver that sleeps", (ran.returncode, ran.stderr[:30]), (4, "csi-client: 4 DeadlineExceeded"))

@@ -5,6 +5,8 @@ import (
 	"context"
 	"fmt"
 	"net"
+	"os"
+	"os/exec"
 	"strconv"
 	"strings"
 	"sync"
@@ -44,6 +46,23 @@ type Plugin struct {
 	last   int
 	calls  []string
 	server *grpc.Server
+}
+
+const proxied = "TUFAYON_TEST_PROXIED" // in the environment of a process that HasProxy started
+
+// HasProxy says whether the environment has a proxy, at which nobody is. Where it has none, the test is run by itself in a process that has one: Go reads
+// that once.
+func HasProxy(t *testing.T) bool {
+	t.Helper()
+	if os.Getenv(proxied) != "" {
+		return true
+	}
+	inside := exec.Command("/proc/self/exe", "-test.run", "^"+t.Name()+"$")
+	inside.Env = append(os.Environ(), proxied+"=1", "HTTPS_PROXY=http://127.0.0.1:1", "NO_PROXY=a.example")
+	if said, err := inside.CombinedOutput(); err != nil {
+		t.Errorf("%v: %s", err, said)
+	}
+	return false
 }
 
 // Serve serves at an address, unix://PATH or HOST:PORT, until the test ends or Stop. Known may be nil.

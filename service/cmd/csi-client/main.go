@@ -24,6 +24,7 @@ import (
 	"google.golang.org/grpc/status"
 
 	"tufayon/service/numbers"
+	"tufayon/service/secure"
 	"tufayon/service/version"
 	_ "tufayon/service/wire" // the messages
 )
@@ -65,7 +66,7 @@ func call(ctx context.Context, endpoint, name, text string) error {
 			return status.Error(codes.InvalidArgument, err.Error())
 		}
 	}
-	connection, err := grpc.DialContext(ctx, endpoint, grpc.WithInsecure())
+	connection, err := grpc.DialContext(ctx, endpoint, append(secure.ToSocket(endpoint), grpc.WithInsecure())...)
 	if err != nil {
 		return err
 	}
@@ -77,7 +78,9 @@ func call(ctx context.Context, endpoint, name, text string) error {
 	if err != nil {
 		return err
 	}
-	fmt.Println(line)
+	if _, err := fmt.Println(line); err != nil {
+		return status.Errorf(codes.DataLoss, "the response can't be printed: %v", err)
+	}
 	return nil
 }
 

@@ -18,6 +18,7 @@ import (
 )
 
 func main() {
+	program.OutliveReader()
 	ctx, stop := signal.NotifyContext(context.Background(), syscall.SIGINT, syscall.SIGTERM)
 	err := run(ctx, os.Args[1:])
 	stop()

@@ -2,9 +2,7 @@
 package main
 
 import (
-	"bytes"
 	"context"
-	"encoding/json"
 	"flag"
 	"fmt"
 	"io"
@@ -26,10 +24,11 @@ func main() {
 	if err := flags.Parse(os.Args[1:]); err != nil || flags.NArg() != 1 {
 		end(2, "usage: csi-host [--program CSI-REPLAY] FILE")
 	}
-	config, err := read(flags.Arg(0))
+	config, err := hosting.Read(flags.Arg(0))
 	if err != nil {
 		end(1, err)
 	}
+	hosting.OutliveReader()
 	ctx, stop := signal.NotifyContext(context.Background(), syscall.SIGINT, syscall.SIGTERM)
 	defer stop()
 	if err := serve(ctx, config, *program); err != nil {
@@ -40,18 +39,6 @@ func main() {
 func end(status int, why any) {
 	fmt.Fprintf(os.Stderr, "csi-host: %v\n", why)
 	os.Exit(status)
-}
-
-func read(file string) (hosting.Config, error) {
-	config := hosting.Config{DeadlineSeconds: 60, RetrySeconds: 1}
-	content, err := os.ReadFile(file)
-	if err != nil {
-		return config, err
-	}
-	decoder := json.NewDecoder(bytes.NewReader(content))
-	decoder.DisallowUnknownFields()
-	err = decoder.Decode(&config)
-	return config, err
 }
 
 func serve(ctx context.Context, config hosting.Config, program string) error {

@@ -19,6 +19,7 @@ func main() {
 	if version.Told("csi-orchestrator", os.Args[1:], os.Stdout) {
 		return
 	}
+	hosting.OutliveReader()
 	err := run(os.Args[1:])
 	if err == nil {
 		return

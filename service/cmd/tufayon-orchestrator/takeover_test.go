@@ -8,6 +8,7 @@ import (
 	"testing"
 	"time"
 
+	"google.golang.org/grpc"
 	"google.golang.org/grpc/codes"
 	"google.golang.org/grpc/status"
 
@@ -35,7 +36,7 @@ func TestTakeover(t *testing.T) {
 		t.Fatal(err)
 	}
 	waiting, _ := second.start(false)
-	_, err := waiting.Get(ctx, &wire.GetRequest{Name: "v"})
+	_, err := waiting.Get(ctx, &wire.GetRequest{Name: "v"}, grpc.WaitForReady(true)) // its socket's file is there before anybody may connect
 	if its := status.Convert(err); its.Code() != codes.Unavailable || its.Message() != "this service doesn't lead: "+made.address+" does" {
 		t.Errorf("the second: %v", err)
 	}

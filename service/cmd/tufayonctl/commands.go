@@ -7,6 +7,7 @@ import (
 	"math"
 	"strconv"
 	"strings"
+	"time"
 
 	"github.com/spf13/cobra"
 
@@ -244,7 +245,10 @@ func namesOf(ctx context.Context, client wire.OrchestratorClient) (names []strin
 	return names
 }
 
-// complete gives the names of volumes, nodes and targets that may stand at a place, as far as the service tells them.
+// completing is how long a shell waits for what may stand at a place, since nobody sees what it waits for: shorter in a test.
+var completing = 2 * time.Second
+
+// complete gives the names of volumes, nodes and targets that may stand at a place, as far as the service tells them soon.
 func (ctl *ctl) complete(command *cobra.Command, words []string, _ string) ([]string, cobra.ShellCompDirective) {
 	places := strings.Fields(command.Use)[1:]
 	if len(words) >= len(places) {
@@ -255,6 +259,8 @@ func (ctl *ctl) complete(command *cobra.Command, words []string, _ string) ([]st
 		return nil, cobra.ShellCompDirectiveNoFileComp
 	}
 	defer end()
+	ctx, cancel := context.WithTimeout(ctx, completing)
+	defer cancel()
 	var names []string
 	switch strings.Trim(places[len(words)], "[]") {
 	case "NAME":

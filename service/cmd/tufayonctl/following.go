@@ -27,6 +27,7 @@ type following struct {
 
 	mutex sync.Mutex
 	known map[string]*grpc.ClientConn // by their addresses
+	until time.Time                   // when it is no more looked for one of several that leads, as long as none does
 }
 
 // leader is what a refusal's trailer says: where the service is that leads, nothing where that isn't known. It says whether the call is to be made again.
@@ -38,12 +39,12 @@ func leader(err error, trailer metadata.MD) (address string, isRefusal bool) {
 	return said[0], true
 }
 
-// leads waits until one of several services leads, as their health says.
+// leads waits until one of several services leads, as their health says: by calls that are made one after another no longer than by one.
 func (it *following) leads(ctx context.Context, first *grpc.ClientConn) error {
 	if it.several == "" {
 		return nil
 	}
-	within, cancel := context.WithTimeout(ctx, patience)
+	within, cancel := context.WithDeadline(ctx, it.looks())
 	defer cancel()
 	for state := first.GetState(); state != connectivity.Ready; state = first.GetState() {
 		switch {
@@ -54,7 +55,20 @@ func (it *following) leads(ctx context.Context, first *grpc.ClientConn) error {
 			return status.Errorf(codes.Unavailable, "none of %s leads", it.several)
 		}
 	}
+	it.mutex.Lock()
+	defer it.mutex.Unlock()
+	it.until = time.Time{}
 	return nil
+}
+
+// looks says until when it is looked for one that leads.
+func (it *following) looks() time.Time {
+	it.mutex.Lock()
+	defer it.mutex.Unlock()
+	if it.until.IsZero() {
+		it.until = time.Now().Add(patience)
+	}
+	return it.until
 }
 
 // next gives the connection at which a refused call is made again. Where it isn't known which service leads, or the one of which that is said isn't reached,

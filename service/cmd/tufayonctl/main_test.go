@@ -339,6 +339,30 @@ func TestNobodyLeads(t *testing.T) {
 	}
 }
 
+// Where none of several services leads, a command that tells what is going on waits no longer than another one.
+func TestNobodyLeadsMeanwhile(t *testing.T) {
+	defer func(before time.Duration) { patience = before }(patience)
+	patience = time.Second
+	nobody := "unix://" + filepath.Join(t.TempDir(), "nobody")
+	began := time.Now()
+	says(t, nobody+","+nobody, "delete|v|--wait", 3, "Unavailable: none of "+nobody+","+nobody+" leads\n")
+	if took := time.Since(began); took >= 2*patience {
+		t.Errorf("it took %v", took)
+	}
+}
+
+// A shell that completes words waits a moment alone where none of several services leads: not as long as a command.
+func TestNobodyCompletes(t *testing.T) {
+	defer func(before time.Duration) { completing = before }(completing)
+	completing = 100 * time.Millisecond
+	nobody := "unix://" + filepath.Join(t.TempDir(), "nobody")
+	began := time.Now()
+	says(t, nobody+","+nobody, "__complete|get|", 0, "")
+	if took := time.Since(began); took > patience/2 {
+		t.Errorf("it took %v", took)
+	}
+}
+
 func TestUsage(t *testing.T) {
 	nobody := "unix://" + filepath.Join(t.TempDir(), "nobody")
 	says(t, nobody, "list", 3, "Unavailable")

@@ -336,7 +336,7 @@ func Dial(t testing.TB, socket string, options ...grpc.DialOption) *grpc.ClientC
 	again := grpc.ConnectParams{
 		Backoff: backoff.Config{BaseDelay: 10 * time.Millisecond, Multiplier: 1, MaxDelay: 10 * time.Millisecond}, MinConnectTimeout: 5 * time.Second,
 	}
-	connection, err := grpc.Dial("unix://"+socket, append(options, grpc.WithInsecure(), grpc.WithConnectParams(again))...)
+	connection, err := grpc.Dial("unix://"+socket, append(options, grpc.WithInsecure(), grpc.WithNoProxy(), grpc.WithConnectParams(again))...)
 	if err != nil {
 		t.Fatal(err)
 	}
