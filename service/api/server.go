@@ -4,6 +4,7 @@ package api
 import (
 	"context"
 	"errors"
+	"net"
 	"sync"
 	"time"
 
@@ -33,6 +34,9 @@ const (
 	mostListed = 1000    // volumes that a page of a list has at most
 	mostBytes  = 2 << 20 // of a page with several volumes: half of what clients of gRPC take
 	mostWatch  = 1024    // streams of Watch at once: each is told of each event
+
+	mostConnections = 1024
+	mostStreams     = 8192 // of a connection: twice as many as there are volumes, so that it may wait for each
 )
 
 // Plugins says how it stands with the plugins: carrying.Carrier is one.
@@ -47,32 +51,38 @@ type Server struct {
 	plugins Plugins
 	leader  func(context.Context) string
 	health  *health.Server
+	limits  *limiting.Limits
 	mutex   sync.RWMutex
 	leads   *host.Host // nil while this process doesn't lead
 	history *history.History
 }
 
-// New makes a server, which doesn't lead, and a gRPC server of its service, its health and its reflection. Who may call what, the roles say. The address of
-// the service that leads is nothing where it isn't known, or nil where there is no other service. Interceptors among other options come before all else.
+// New makes a server, which doesn't lead, and a gRPC server of its service, its health and its reflection, for what Listen gives. Who may call what, the roles
+// say. The address of the service that leads is nothing where it isn't known, or nil where there is no other service. Interceptors among other options come
+// before all else.
 func New(
 	plugins Plugins, leader func(context.Context) string, roles *Roles, known credentials.TransportCredentials, log *zap.Logger, more ...grpc.ServerOption,
 ) (*Server, *grpc.Server) {
 	guard := &guard{roles: roles, log: log}
-	made := grpc.NewServer(append(more,
-		grpc.Creds(known), grpc.ConnectionTimeout(limiting.Greeting), grpc.ChainUnaryInterceptor(guard.unary), grpc.ChainStreamInterceptor(guard.stream),
+	limits := &limiting.Limits{Connections: mostConnections, Streams: mostStreams, Refusal: "too many connections"}
+	made := grpc.NewServer(append(append(more, limits.Options()...),
+		grpc.Creds(known), grpc.ChainUnaryInterceptor(limits.Intercept, guard.unary), grpc.ChainStreamInterceptor(limits.InterceptStream, guard.stream),
 		grpc.KeepaliveEnforcementPolicy(keepalive.EnforcementPolicy{MinTime: 5 * time.Second, PermitWithoutStream: true}),
 		grpc.KeepaliveParams(keepalive.ServerParameters{Time: 30 * time.Second, Timeout: 10 * time.Second}),
 	)...)
 	if leader == nil {
 		leader = func(context.Context) string { return "" }
 	}
-	server := &Server{plugins: plugins, leader: leader, health: health.NewServer()}
+	server := &Server{plugins: plugins, leader: leader, health: health.NewServer(), limits: limits}
 	server.tell(grpc_health_v1.HealthCheckResponse_NOT_SERVING)
 	wire.RegisterOrchestratorServer(made, server)
 	grpc_health_v1.RegisterHealthServer(made, server.health)
 	reflection.Register(made)
 	return server, made
 }
+
+// Listen gives a listener whose connections are counted, for the gRPC server: calls of those above the limit are refused.
+func (server *Server) Listen(inner net.Listener) net.Listener { return server.limits.Listen(inner) }
 
 func (server *Server) tell(how grpc_health_v1.HealthCheckResponse_ServingStatus) {
 	server.health.SetServingStatus("", how)

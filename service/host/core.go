@@ -7,6 +7,7 @@ import (
 	"errors"
 	"fmt"
 	"reflect"
+	"strings"
 	"time"
 
 	"tufayon/service/numbers"
@@ -101,6 +102,9 @@ func (core *core) begin(ctx context.Context, nodes []string) error {
 		return err
 	}
 	made, err := plugin.MakeOrchestrator(configOf(nodes), store.Record(before), 0)
+	if errors.Is(err, plugin.NodeInUse) {
+		err = fmt.Errorf("%w: %s: list it again, or first stop all volumes there, or declare it lost", err, strings.Join(leftOut(parts, nodes), ", "))
+	}
 	if err != nil {
 		return fmt.Errorf("a session of %d nodes: %w", len(nodes), err)
 	}
@@ -125,6 +129,30 @@ func (core *core) begin(ctx context.Context, nodes []string) error {
 		}
 	}
 	return core.takeAll(changes)
+}
+
+// leftOut are the nodes of a record that has these parts at which a volume may be attached, and that aren't among these nodes. The library has read it.
+func leftOut(parts []store.Part, nodes []string) (left []string) {
+	var listed []string
+	isUsed := map[string]bool{}
+	for _, part := range parts {
+		if part.Key == records.HeadKey {
+			listed, _ = records.OrchestratorNodes(part.Value)
+		} else if row, err := records.ReadRow(part.Value); err == nil {
+			for _, at := range row.At {
+				isUsed[at.Node] = isUsed[at.Node] || at.Attached != records.No
+			}
+		}
+	}
+	for _, node := range nodes {
+		delete(isUsed, node)
+	}
+	for _, node := range listed {
+		if isUsed[node] {
+			left = append(left, node)
+		}
+	}
+	return left
 }
 
 // sessionOf is the session of a record that has these parts, 0 where there are none.

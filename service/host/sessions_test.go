@@ -56,6 +56,27 @@ func TestLose(t *testing.T) {
 	}
 }
 
+// A list that leaves out nodes in use is refused, at a start too, by their names, and by what is to be done. One that was lost, or isn't in use, isn't told.
+func TestNodesLeftOut(t *testing.T) {
+	kept, carrier := hosttest.NewStore(), &hosttest.Carrier{}
+	made := open(t, kept, carrier, quick, "n1", "n2", "n3", "n4", "n5")
+	for at, node := range []string{"n1", "n2", "n3", "n5"} {
+		does(t, made, create(fmt.Sprint("v", at)))
+		does(t, made, use(fmt.Sprint("v", at), node, "/a"))
+	}
+	if _, err := made.Lose(ctx, "n3"); err != nil {
+		t.Fatal(err)
+	}
+	const want = "a session of 1 nodes: node in use: n1, n2: list it again, or first stop all volumes there, or declare it lost"
+	if _, err := made.Begin(ctx, []string{"n5"}, "a test"); !errors.Is(err, plugin.NodeInUse) || err.Error() != want {
+		t.Errorf("two in use are left out: %v", err)
+	}
+	made.Close()
+	if _, err := host.Open(ctx, host.Options{Store: kept, Nodes: []string{"n5"}, Carrier: carrier, Times: quick, Log: zap.NewNop()}); fmt.Sprint(err) != want {
+		t.Errorf("at a start: %v", err)
+	}
+}
+
 // Another list of nodes is a session. One that leaves out a node in use is refused, and all stays as it was.
 func TestNodes(t *testing.T) {
 	made := open(t, hosttest.NewStore(), &hosttest.Carrier{}, quick, "n1")

@@ -25,13 +25,11 @@ const mostStop = time.Second
 type Limits struct {
 	Connections int
 	Streams     uint32
+	Refusal     string // of a call of a connection above the limit
 }
 
 // New gives the limits of a driver: more than the sidecars of a platform have.
-func New() *Limits { return &Limits{Connections: 256, Streams: 4096} }
-
-// errConnections refuses a call of a connection above the limit.
-var errConnections = status.Error(codes.ResourceExhausted, "connections")
+func New() *Limits { return &Limits{Connections: 256, Streams: 4096, Refusal: "connections"} }
 
 // Options are the server's.
 func (limits *Limits) Options() []grpc.ServerOption {
@@ -59,10 +57,10 @@ type above struct {
 }
 
 // judge refuses a call of a connection above the limit.
-func judge(ctx context.Context) error {
+func (limits *Limits) judge(ctx context.Context) error {
 	if from, known := peer.FromContext(ctx); known {
 		if its, is := from.Addr.(above); is && !its.connection.mayCall() {
-			return errConnections
+			return status.Error(codes.ResourceExhausted, limits.Refusal)
 		}
 	}
 	return nil
@@ -70,7 +68,7 @@ func judge(ctx context.Context) error {
 
 // Intercept refuses the calls of a connection above the limit, until another one has ended.
 func (limits *Limits) Intercept(ctx context.Context, request any, _ *grpc.UnaryServerInfo, handle grpc.UnaryHandler) (any, error) {
-	if err := judge(ctx); err != nil {
+	if err := limits.judge(ctx); err != nil {
 		return nil, err
 	}
 	return handle(ctx, request)
@@ -78,7 +76,7 @@ func (limits *Limits) Intercept(ctx context.Context, request any, _ *grpc.UnaryS
 
 // InterceptStream does the same with streams.
 func (limits *Limits) InterceptStream(server any, stream grpc.ServerStream, _ *grpc.StreamServerInfo, handle grpc.StreamHandler) error {
-	if err := judge(stream.Context()); err != nil {
+	if err := limits.judge(stream.Context()); err != nil {
 		return err
 	}
 	return handle(server, stream)

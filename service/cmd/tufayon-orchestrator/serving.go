@@ -131,7 +131,7 @@ func (running *service) listen() (served <-chan error, end func(), err error) {
 	running.watching.metrics.Server.InitializeMetrics(running.grpc)
 	running.server.Keep(running.watching.history)
 	ended := make(chan error, 1)
-	go func() { ended <- running.grpc.Serve(listener) }()
+	go func() { ended <- running.grpc.Serve(running.server.Listen(listener)) }()
 	return ended, func() { limiting.Stop(running.grpc); listener.Close(); closeFinder() }, nil
 }
 
