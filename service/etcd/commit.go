@@ -194,12 +194,16 @@ func (leading *leading) commitInParts(ctx context.Context, edits []edit, sides [
 
 // carryOver has a large commit, which was made, in the parts and texts themselves.
 func (leading *leading) carryOver(ctx context.Context, edits []edit) error {
-	for _, piece := range split(operationsOf(edits)) {
-		if err := leading.change(ctx, piece); err != nil {
+	for _, piece := range append(split(operationsOf(edits)), append(leading.forgetEarly(), clientv3.OpDelete(leading.wholeKey()))) {
+		err := leading.change(ctx, piece)
+		if errors.Is(err, store.ErrNoSpace) { // the commit is made all the same, and whoever leads next carries it over
+			err = fmt.Errorf("%w: %v", store.ErrUnknown, err)
+		}
+		if err != nil {
 			return err
 		}
 	}
-	return leading.change(ctx, append(leading.forgetEarly(), clientv3.OpDelete(leading.wholeKey())))
+	return nil
 }
 
 func (leading *leading) forgetEarly() []clientv3.Op {
@@ -237,12 +241,16 @@ func (leading *leading) change(ctx context.Context, operations []clientv3.Op) er
 }
 
 // transact asks for a transaction, again where no answer comes, and says whether its conditions held, or it was carried out before: then the key of
-// their count has this mark. It fails with ErrTooSmall where etcd refused it for its size, and nothing was done, and else with ErrUnknown.
+// their count has this mark. It fails with ErrTooSmall where etcd refused it for its size, and with ErrNoSpace where it had no space, and nothing was done,
+// and else with ErrUnknown.
 func (leading *leading) transact(ctx context.Context, mark string, operations []clientv3.Op, conditions ...clientv3.Cmp) (bool, error) {
 	ctx, cancel := context.WithTimeout(ctx, patience)
 	defer cancel()
-	for {
+	for isFirst := true; ; isFirst = false {
 		done, err := leading.ask(ctx, mark, operations, conditions)
+		if errors.Is(err, rpctypes.ErrNoSpace) {
+			return leading.withoutSpace(ctx, mark, isFirst, err)
+		}
 		if isTooLarge(err) {
 			return false, fmt.Errorf("%w: it has to run with --max-txn-ops %d and --max-request-bytes %d or more: %v",
 				store.ErrTooSmall, usualTxnOps, usualBytes, err)
@@ -261,6 +269,28 @@ func (leading *leading) transact(ctx context.Context, mark string, operations []
 		case <-time.After(again):
 		}
 	}
+}
+
+// withoutSpace says of a transaction, as transact does, what became of it where etcd answers that it has no space. Most such it didn't carry out. One that it
+// took before it knew it does, and answers so nevertheless: then the mark is there. One that was asked for before, and not answered, may still come.
+func (leading *leading) withoutSpace(ctx context.Context, mark string, isFirst bool, why error) (bool, error) {
+	found := leading.last
+	if mark != "" {
+		got, err := leading.get(ctx, leading.countKey())
+		if err != nil {
+			return false, fmt.Errorf("%w: %v: %v", store.ErrUnknown, why, err)
+		}
+		if found = ""; len(got.Kvs) > 0 {
+			found = string(got.Kvs[0].Value)
+		}
+	}
+	switch {
+	case mark != "" && found == mark:
+		return true, nil
+	case isFirst && found == leading.last:
+		return false, fmt.Errorf("%w: %v", store.ErrNoSpace, why)
+	}
+	return false, fmt.Errorf("%w: %v", store.ErrUnknown, why)
 }
 
 // ask asks once, and gives up where the lease ends.

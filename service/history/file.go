@@ -38,6 +38,12 @@ type head struct {
 
 const fileVersion = 1
 
+// newEnds is what the name of a file that is written anew has behind its own.
+const newEnds = ".new"
+
+// Files are those of a history in a file: this one, and the one that comes in its place.
+func Files(path string) []string { return []string{path, path + newEnds} }
+
 // beginning is how each file begins.
 const beginning = `{"history":`
 
@@ -154,7 +160,7 @@ func (it *file) hasRoom(size int) bool {
 // rewrite writes the file anew, in place of what is there.
 func (made *History) rewrite() error {
 	it := made.file
-	anew, err := os.OpenFile(it.path+".new", os.O_CREATE|os.O_TRUNC|os.O_WRONLY, 0o600)
+	anew, err := os.OpenFile(it.path+newEnds, os.O_CREATE|os.O_TRUNC|os.O_WRONLY, 0o600)
 	if err != nil {
 		return err
 	}
@@ -169,11 +175,11 @@ func (made *History) rewrite() error {
 		err = anew.Sync() // else a machine that dies soon may have neither the one before nor this one
 	}
 	if err == nil {
-		err = os.Rename(it.path+".new", it.path)
+		err = os.Rename(it.path+newEnds, it.path)
 	}
 	if err != nil {
 		anew.Close()
-		os.Remove(it.path + ".new")
+		os.Remove(it.path + newEnds)
 		return err
 	}
 	if it.to != nil {

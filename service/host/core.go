@@ -30,6 +30,8 @@ type core struct {
 	peers   *peers                  // likewise: what is kept beside the record
 	token   string                  // of this opening of the store
 	clock   func() time.Time        // by which sessions begin; nil for none
+
+	committed func(took time.Duration, err error) // is told each commit; nil for nobody
 }
 
 func newCore(kept store.Store, clock func() time.Time) (*core, error) {
@@ -318,7 +320,12 @@ func (core *core) commit(ctx context.Context) error {
 	if len(changes)+len(sides) == 0 {
 		return nil
 	}
-	return store.CommitWith(ctx, core.store, sides, changes)
+	began := time.Now()
+	err := store.CommitWith(ctx, core.store, sides, changes)
+	if core.committed != nil {
+		core.committed(time.Since(began), err)
+	}
+	return err
 }
 
 // row is the row of a name, nil where there is none.

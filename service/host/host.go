@@ -99,6 +99,7 @@ func Open(ctx context.Context, options Options) (*Host, error) {
 		waiters: newWaiters(), board: newBoard(),
 		core: core, volumes: map[string]*volume{},
 	}
+	core.committed = host.committed
 	host.callers = newCallers(host.done)
 	host.confirms.ask = func(ctx context.Context) error { return options.Store.Commit(ctx, false, nil) }
 	host.calls, host.giveUp = context.WithCancel(context.Background())

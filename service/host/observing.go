@@ -82,18 +82,19 @@ func (host *Host) observe(work *work) {
 	}
 }
 
-// commit commits what was asked, and tells how long that took.
+// commit commits what was asked.
 func (host *Host) commit() error {
 	if len(host.core.changes)+len(host.core.peers.changed) == 0 {
 		return nil
 	}
-	began := time.Now()
-	err := host.underWay(func() error { return host.core.commit(context.Background()) })
-	took := time.Since(began)
+	return host.underWay(func() error { return host.core.commit(context.Background()) })
+}
+
+// committed tells the observers of a commit, also of that with which a session begins.
+func (host *Host) committed(took time.Duration, err error) {
 	for _, observer := range host.observers {
 		observer.Committed(took, err)
 	}
-	return err
 }
 
 // underWay has a commit made, which is told as under way meanwhile.

@@ -15,8 +15,10 @@ import (
 	"tufayon/service/carrying"
 	"tufayon/service/daemon"
 	"tufayon/service/frames"
+	"tufayon/service/history"
 	"tufayon/service/hooks"
 	"tufayon/service/secure"
+	"tufayon/service/store"
 	"tufayon/service/web"
 )
 
@@ -47,7 +49,40 @@ func (settings *Settings) faults() Faults {
 	settings.Set.check(set)
 	process := &checking{file: settings.File}
 	settings.Process.check(process)
+	settings.checkOwn(process)
 	return append(append(set.faults, process.faults...), settings.Process.open(settings.File, settings.addresses())...)
+}
+
+// checkOwn judges whether what has to be this process's own is something else's too: where it serves a plugin's address, or its history a file of its store.
+func (settings *Settings) checkOwn(to *checking) {
+	process, plugins := &settings.Process, settings.Set.places()
+	for _, it := range []struct{ place, address string }{{"listen", process.Listen}, {"watch", process.Watch}} {
+		if plugin, isPlugins := plugins[it.address]; isPlugins && it.address != "" {
+			to.refuse(it.place, "%q is that of %s in %s too", it.address, plugin, process.Place.Set)
+		}
+	}
+	if process.Store == "" || process.History == "" {
+		return
+	}
+	for _, it := range store.Files(filepath.Clean(process.Store)) {
+		for _, its := range history.Files(filepath.Clean(process.History)) {
+			if its == it {
+				to.refuse("history", "%q is a file of the store", its)
+			}
+		}
+	}
+}
+
+// places are those of the plugins' addresses, by these.
+func (set *Set) places() map[string]string {
+	places := map[string]string{set.Controller: "controller"}
+	for at, it := range set.Controllers {
+		places[it] = fmt.Sprintf("controllers[%d]", at)
+	}
+	for at, it := range set.Nodes {
+		places[it.Address] = fmt.Sprintf("nodes[%d].address", at)
+	}
+	return places
 }
 
 // open are the addresses, by their places, at which a process without certificates would speak with whoever is there.
@@ -110,7 +145,7 @@ func (set *Set) check(to *checking) {
 		if other, isThere := addresses[it.Address]; isThere {
 			to.refuse(place+".address", "%q is that of %s too", it.Address, other)
 		}
-		checkAddress(to, place+".address", it.Address)
+		checkPlugin(to, place+".address", it.Address)
 		ids[it.ID], addresses[it.Address] = at, place
 	}
 	set.Times.check(to)
@@ -123,12 +158,12 @@ func (set *Set) checkControllers(to *checking) map[string]string {
 	}
 	places := map[string]string{}
 	if set.Controller != "" {
-		checkAddress(to, "controller", set.Controller)
+		checkPlugin(to, "controller", set.Controller)
 		places[set.Controller] = "controller"
 	}
 	for at, it := range set.Controllers {
 		place := fmt.Sprintf("controllers[%d]", at)
-		checkAddress(to, place, it)
+		checkPlugin(to, place, it)
 		if other, isThere := places[it]; isThere {
 			to.refuse(place, "%q is that of %s too", it, other)
 		}
@@ -242,6 +277,15 @@ func (etcd *Etcd) check(to *checking) {
 	if etcd.Lease < 1 {
 		to.refuse("etcd.lease", "%d isn't above 0", etcd.Lease)
 	}
+}
+
+// checkPlugin judges a plugin's address: with a comma in it, it would be taken for those of several.
+func checkPlugin(to *checking, place, address string) {
+	if strings.Contains(address, ",") {
+		to.refuse(place, "%q has a comma, and isn't one address", address)
+		return
+	}
+	checkAddress(to, place, address)
 }
 
 func checkAddress(to *checking, place, address string) {

@@ -101,6 +101,24 @@ func TestFaults(t *testing.T) {
 		}},
 		{set, `{"set": "set.json", "store": "s", "listen": "unix:///o", "watch": "unix:///o"}`, []string{`process.json: watch: "unix:///o" is that of listen too`}},
 		{set, `{"set": "set.json", "store": "s", "listen": "unix:///o", "watch": ":9480", "log": "info warn"}`, []string{`watch: ":9480" is neither`, `isn't on loopback`, `log: "info warn"`}},
+		{strings.Replace(set, `/run/c.sock`, `/run/c.sock,unix:///run/d.sock`, 1), process, []string{
+			`set.json: controller: "unix:///run/c.sock,unix:///run/d.sock" has a comma, and isn't one address`,
+		}},
+		{strings.NewReplacer(`"controller": "unix:///run/c.sock"`, `"controllers": ["unix:///c,d"]`, `unix:///run/n2.sock`, `n2,n3:7102`).Replace(set), process, []string{
+			`set.json: controllers[0]: "unix:///c,d" has a comma`, `set.json: nodes[1].address: "n2,n3:7102" has a comma`, "set.json: nodes[1].address: over TCP",
+		}},
+		{set, `{"set": "set.json", "store": "s", "listen": "unix:///run/c.sock", "watch": "unix:///run/n2.sock"}`, []string{
+			`process.json: listen: "unix:///run/c.sock" is that of controller in `, `process.json: watch: "unix:///run/n2.sock" is that of nodes[1].address in `,
+		}},
+		{strings.Replace(set, `"controller": "unix:///run/c.sock"`, `"controllers": ["unix:///c", "unix:///d"]`, 1), `{"set": "set.json", "store": "s", "listen": "unix:///d"}`, []string{
+			`process.json: listen: "unix:///d" is that of controllers[1] in `,
+		}},
+		{set, `{"set": "set.json", "store": "/a/../s", "history": "/b/../s", "listen": "unix:///o"}`, []string{`process.json: history: "/s" is a file of the store`}},
+		{set, `{"set": "set.json", "store": "s", "history": "s.beside", "listen": "unix:///o"}`, []string{`/s.beside" is a file of the store`}},
+		{set, `{"set": "set.json", "store": "s", "history": "s-wal", "listen": "unix:///o"}`, []string{`/s-wal" is a file of the store`}},
+		{set, `{"set": "set.json", "store": "s", "history": "s-shm", "listen": "unix:///o"}`, []string{`/s-shm" is a file of the store`}},
+		{set, `{"set": "set.json", "store": "s", "history": "s.beside-wal", "listen": "unix:///o"}`, []string{`/s.beside-wal" is a file of the store`}},
+		{set, `{"set": "set.json", "store": "h.new", "history": "h", "listen": "unix:///o"}`, []string{`/h.new" is a file of the store`}}, // as which it is written anew
 		{set, `{"set": "set.json", "listen": "unix:///o"}`, []string{"process.json: store: either this file is there, or etcd"}},
 		{set, `{"set": "set.json", "listen": "unix:///o", "store": "s", "etcd": {"ca": "ca.pem"}}`, []string{
 			"store: either", "etcd.endpoints: there are none", "etcd.prefix: it is missing", "etcd.certificate: ca, certificate and key", "etcd.lease: 0 isn't above 0",

@@ -60,6 +60,9 @@ const (
 	markName   = ""      // of a side that a commit puts which takes some out alone, or none: the last commit is the greatest that one has
 )
 
+// besideEnds is what the name of their file has behind that of the record's.
+const besideEnds = ".beside"
+
 // beside are the sides of a record in SQLite, whose file may have no other table: a file of their own, with the table beside. A commit that puts sides has
 // a number, which the record's file has as its user_version, modulo 2^31. It is made in both files at once, or where a side is to be first, here before it
 // is there; and here each side keeps the value before. So where a process ended between the two, what was here at the record's last commit is known, or is

@@ -52,12 +52,21 @@ func openSQLite(ctx context.Context, path string, has table) (*sqlite, error) {
 		return nil, fmt.Errorf("%w: %v", ErrNotOpened, err)
 	}
 	db.SetMaxOpenConns(1) // one connection, which has the lock
-	store := &sqlite{db: db, lost: make(chan struct{}), beside: beside{path: path + ".beside"}}
+	store := &sqlite{db: db, lost: make(chan struct{}), beside: beside{path: path + besideEnds}}
 	if err = prepare(ctx, db, has); err != nil {
 		db.Close()
 		return nil, fmt.Errorf("%w: %v", ErrNotOpened, err)
 	}
 	return store, nil
+}
+
+// Files are those of a store in a file: this one, the one with what stands beside it, and those in which SQLite may keep what it writes to either.
+func Files(path string) []string {
+	var files []string
+	for _, it := range []string{path, path + besideEnds} {
+		files = append(files, it, it+"-wal", it+"-shm", it+"-journal")
+	}
+	return files
 }
 
 // A table says what a file has: lists counts what else one lists, makes makes what is missing, and judge, where there is one, refuses what it has.

@@ -53,6 +53,7 @@ var (
 	ErrLost      = errors.New("leadership lost")
 	ErrUnknown   = errors.New("a commit's outcome isn't known")
 	ErrTooSmall  = errors.New("etcd takes no commit that is large enough")
+	ErrNoSpace   = errors.New("etcd has no space for a commit") // nothing of which is made
 	ErrNotes     = errors.New("the notes of staging paths")
 	ErrOlder     = errors.New("older store") // an orchestrator's, as a plugin told
 	ErrMemory    = errors.New("memory")      // an allocation of a plugin was refused

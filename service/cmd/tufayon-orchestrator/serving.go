@@ -27,8 +27,9 @@ import (
 )
 
 const (
-	reach  = 10 * time.Second // how long a node may take to say which one it is
-	finish = 10 * time.Second // how long calls that are under way may take, once the process is to end
+	reach   = 10 * time.Second // how long a node may take to say which one it is
+	finish  = 10 * time.Second // how long calls that are under way may take, once the process is to end
+	mostEnd = 8 * time.Second  // how long all the rest of an end may take
 
 	busy = 20 * time.Millisecond // until it is looked once more whether fewer commands wait
 )
@@ -45,16 +46,58 @@ type service struct {
 	grpc     *grpc.Server
 	watching *watching
 	anew     <-chan os.Signal // says that the files are to be read anew
+	ends     chan error       // why it ends, once it does
+	ended    chan error       // what came of it in the end
+	most     time.Duration    // that an end may take
+	opens    func(context.Context) (store.Store, error)
 }
 
-// serve serves callers at once, and waits until this process has the store: then it leads.
+// serve serves until the context ends, or it can't go on.
 func serve(ctx context.Context, read *settings.Settings, log *zap.Logger) error {
 	anew := make(chan os.Signal, 1)
 	signal.Notify(anew, syscall.SIGHUP)
 	defer signal.Stop(anew)
-	running := &service{settings: read, log: log, roles: &api.Roles{}, anew: anew}
-	running.clients = &clients{roles: running.roles, of: map[string]time.Time{}}
-	running.roles.Set(read.Roles(os.Geteuid()))
+	return newService(read, log, anew).run(ctx)
+}
+
+// newService makes one that doesn't run yet.
+func newService(read *settings.Settings, log *zap.Logger, anew <-chan os.Signal) *service {
+	made := &service{settings: read, log: log, roles: &api.Roles{}, anew: anew, most: finish + mostEnd}
+	made.ends, made.ended = make(chan error, 1), make(chan error, 1)
+	made.clients = &clients{roles: made.roles, of: map[string]time.Time{}}
+	made.roles.Set(read.Roles(os.Geteuid()))
+	process := &read.Process
+	made.opens = func(ctx context.Context) (store.Store, error) {
+		return program.OpenStore(ctx, &process.Place, process.Address)
+	}
+	return made
+}
+
+// run runs the service, and ends it in time: what is under way may go on for a while, then all else is given up, as a commit that etcd doesn't answer. It is
+// called once.
+func (running *service) run(ctx context.Context) error {
+	go func() { running.ended <- running.live(ctx) }()
+	var why error
+	select {
+	case err := <-running.ended:
+		return err
+	case why = <-running.ends:
+	case <-ctx.Done():
+	}
+	select {
+	case err := <-running.ended:
+		return err
+	case <-time.After(running.most):
+	}
+	if why == nil {
+		why = fmt.Errorf("%w: something under way can't be ended", store.ErrDevice)
+	}
+	return why
+}
+
+// live serves callers at once, and waits until this process has the store: then it leads.
+func (running *service) live(ctx context.Context) error {
+	read, log := running.settings, running.log
 	if err := running.connect(); err != nil {
 		return err
 	}
@@ -82,6 +125,7 @@ func serve(ctx context.Context, read *settings.Settings, log *zap.Logger) error 
 		return err
 	}
 	err = running.lead(ctx, kept, served)
+	running.toEnd(err)
 	if closed := kept.Close(); err == nil {
 		err = closed
 	}
@@ -90,12 +134,11 @@ func serve(ctx context.Context, read *settings.Settings, log *zap.Logger) error 
 
 // open opens the store, once this process leads, and reads the files anew meanwhile at SIGHUP: else it would lead with a list of nodes of before.
 func (running *service) open(ctx context.Context) (store.Store, error) {
-	process := &running.settings.Process
 	var kept store.Store
 	opened := make(chan error, 1)
 	go func() {
 		var err error
-		kept, err = program.OpenStore(ctx, &process.Place, process.Address)
+		kept, err = running.opens(ctx)
 		opened <- err
 	}()
 	for {
@@ -180,7 +223,17 @@ func (running *service) lead(ctx context.Context, kept store.Store, served <-cha
 	defer running.watching.lead(nil)
 	daemon.Status("leads")
 	running.log.Info("serves", zap.String("address", running.settings.Process.Listen), zap.Uint64("session", running.host.Session()))
-	return running.wait(ctx, served)
+	err = running.wait(ctx, served)
+	running.toEnd(err)
+	return err
+}
+
+// toEnd notes that it ends from now on, and why.
+func (running *service) toEnd(why error) {
+	select {
+	case running.ends <- why:
+	default: // it is known
+	}
 }
 
 // credentials are those by which callers are known.
