@@ -7,6 +7,7 @@ import (
 	"io"
 	"net"
 	"strings"
+	"syscall"
 	"testing"
 	"time"
 
@@ -21,6 +22,10 @@ import (
 
 // Callers have so many connections and no more, until one of them ends, and of each so many streams.
 func TestConnections(t *testing.T) {
+	var files syscall.Rlimit
+	if err := syscall.Getrlimit(syscall.RLIMIT_NOFILE, &files); err != nil || files.Cur < 2300 {
+		t.Skipf("left out, since a process has %d files at most: %v", files.Cur, err)
+	}
 	ctx, cancel := context.WithTimeout(context.Background(), 3*within)
 	defer cancel()
 	made := newFiles(t)
