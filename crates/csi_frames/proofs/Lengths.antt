@@ -37,7 +37,7 @@ length-capabilities (c ∷ cs) fits =
     omega (arith, ap length (flat_map-cons spelling.capability c cs), length-append (spelling.capability c) (flat_map spelling.capability cs), length-capability c fits.0, length-capabilities cs fits.1)
 
 -- a reply's id has eight bytes, and so has that of a reply without one
-length-reply_id : (id : Option ℕ) → length (spelling.reply_id id) ≡ 8
+pub length-reply_id : (id : Option ℕ) → length (spelling.reply_id id) ≡ 8
 length-reply_id None = refl
 length-reply_id (Some n) = refl
 

@@ -1,4 +1,4 @@
 pub mod Spelling
 pub mod Gives
-pub mod Appends
+pub mod Puts
 pub mod Progress

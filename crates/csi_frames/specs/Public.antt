@@ -1,3 +1,4 @@
+pub mod Appends
 pub mod Spelling
 pub mod FaultKind
 pub mod Kinds

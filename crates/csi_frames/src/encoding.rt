@@ -1,21 +1,19 @@
 //! Frames written as bytes.
-ghost use Rattle.std.specs.Prelude.{◌≡◌, ◌≤◌, ◌<◌, ◌+◌, ◌++◌, ◌^◌, [], ◌∷◌, length, OnOk, OnErr, IsOk, vec_len, vec_capacity};
-ghost use Rattle.std.specs.List.{flat_map, AllByRecursion};
-ghost use Rattle.byteorder.specs.Endian.{big_bytes};
+ghost use Rattle.std.specs.Prelude.{◌≡◌, ◌≤◌, ◌+◌, ◌++◌, length};
 ghost use Rattle.csi_types.specs.Public.VolumeId.{IsVolumeId};
-ghost use Rattle.csi_types.specs.Public.Limits.{IsNumber, IsAccess, IsCapability, IsCapabilityList, IsParty, IsCall, IsReply, IsWord};
+ghost use Rattle.csi_types.specs.Public.Limits.{IsNumber, IsCapability, IsParty, IsCall, IsReply};
 ghost use Rattle.csi_types.specs.Model.Replies.{call_frame, reply_frame};
-ghost use Rattle.csi_types.specs.Public.Status.{status_code};
-ghost use Rattle.csi_frames.specs.Private.Appends.{Appends, HasRoom};
-ghost use Rattle.csi_frames.specs.Public.Spelling.{word, text, flag, access, capability, party, reply_id};
-ghost use Rattle.csi_frames.specs.Public.Spelling.{call_fields, call_capabilities, reply_fields, body_kind, has_new_mode, spelling, Spells};
+ghost use Rattle.csi_frames.specs.Private.Puts.{Puts, HasRoom};
 ghost use Rattle.csi_frames.specs.Private.Spelling.{head};
+ghost use Rattle.csi_frames.specs.Public.Appends.{Appends};
+ghost use Rattle.csi_frames.specs.Public.Spelling.{word, text, flag, capability, party};
+ghost use Rattle.csi_frames.specs.Public.Spelling.{call_fields, call_capabilities, has_new_mode, spelling, Spells};
 
 use crate::body_kind::{kind_number, reply_kind_number};
 use crate::version::{Version, is_new_mode};
 use crate::writing::{
-    capabilities_len, capability_len, put, put_byte, put_capabilities, put_capability, put_id,
-    put_reply, put_text, put_word, reply_len, text_len,
+    append_byte, append_capability, append_flag, append_reply, append_text, append_word,
+    capabilities_len, capability_len, put, put_capabilities,
 };
 use byteorder::{BigEndian, ByteOrder};
 use csi_types::{Body, Call, Capability, Frame, Kind, NoMemory, Number, Party, Reply, VolumeId};
@@ -34,21 +32,21 @@ fn call_len(from: &Call) -> usize
             name,
             capabilities,
             ..
-        } => text_len(name.as_str()) + 8 + 8 + 1 + capabilities_len(capabilities.as_slice()),
+        } => 1 + name.as_str().len() + 8 + 8 + 1 + capabilities_len(capabilities.as_slice()),
         Call::DeleteVolume { .. } | Call::NodeUnstageVolume { .. } => 8,
         Call::ControllerPublishVolume {
             node,
             capability,
             ..
-        } => 8 + text_len(node.as_str()) + capability_len(capability) + 1,
-        Call::ControllerUnpublishVolume { node, .. } => 8 + text_len(node.as_str()),
+        } => 8 + 1 + node.as_str().len() + capability_len(capability) + 1,
+        Call::ControllerUnpublishVolume { node, .. } => 8 + 1 + node.as_str().len(),
         Call::NodeStageVolume { capability, .. } => 8 + capability_len(capability),
         Call::NodePublishVolume {
             target,
             capability,
             ..
-        } => 8 + text_len(target.as_str()) + capability_len(capability) + 1,
-        Call::NodeUnpublishVolume { target, .. } => 8 + text_len(target.as_str()),
+        } => 8 + 1 + target.as_str().len() + capability_len(capability) + 1,
+        Call::NodeUnpublishVolume { target, .. } => 8 + 1 + target.as_str().len(),
     }
 }
 
@@ -58,31 +56,27 @@ fn party_len(from: &Party) -> usize
 {
     match from {
         Party::Controller => 1,
-        Party::Node(id) => 1 + text_len(id.as_str()),
+        Party::Node(id) => 2 + id.as_str().len(),
     }
 }
 
-// ---- the bytes themselves. Each function has room for what it writes, and so takes no memory. Reading a
-// value shows that it is within its limits.
+// ---- the bytes themselves. Each function has room for what it writes, and so takes no memory.
 
 // A volume, the node or the target that it goes to, and how it is to be used there.
 fn put_publish(out: &mut Vec<u8>, id: VolumeId, to: &str, usage: &Capability, readonly: bool)
     requires short { length to.now ≤ 255 }
     requires room { HasRoom out.old (length (word id ++ text to.now ++ capability usage.now ++ flag readonly)) }
-    ensures appends { Appends out.old out.new (word id ++ text to.now ++ capability usage.now ++ flag readonly) }
-    ensures id_fits { IsVolumeId id }
-    ensures usage_fits { IsCapability usage.now }
+    ensures { Puts out.old out.new (word id ++ text to.now ++ capability usage.now ++ flag readonly) (IsVolumeId id × IsCapability usage.now) }
 {
-    put_id(out, id);
-    put_text(out, to);
-    put_capability(out, usage);
-    put_byte(out, if readonly { 1 } else { 0 });
+    append_word(out, id.number()).unwrap();
+    append_text(out, to).unwrap();
+    append_capability(out, usage).unwrap();
+    append_flag(out, readonly).unwrap();
 }
 
 fn put_call(out: &mut Vec<u8>, from: &Call)
     requires { HasRoom out.old (length (call_fields from.now)) }
-    ensures appends { Appends out.old out.new (call_fields from.now) }
-    ensures fits { IsCall from.now }
+    ensures { Puts out.old out.new (call_fields from.now) (IsCall from.now) }
 {
     match from {
         Call::CreateVolume {
@@ -92,13 +86,15 @@ fn put_call(out: &mut Vec<u8>, from: &Call)
             capabilities,
         } => {
             let capabilities = capabilities.as_slice();
-            put_text(out, name.as_str());
-            put_word(out, *required);
-            put_word(out, *limit);
-            put_byte(out, capabilities.len() as u8);
+            append_text(out, name.as_str()).unwrap();
+            append_word(out, *required).unwrap();
+            append_word(out, *limit).unwrap();
+            append_byte(out, capabilities.len() as u8).unwrap();
             put_capabilities(out, capabilities);
         }
-        Call::DeleteVolume { id } | Call::NodeUnstageVolume { id } => put_id(out, *id),
+        Call::DeleteVolume { id } | Call::NodeUnstageVolume { id } => {
+            append_word(out, id.number()).unwrap();
+        }
         Call::ControllerPublishVolume {
             id,
             node,
@@ -106,12 +102,12 @@ fn put_call(out: &mut Vec<u8>, from: &Call)
             readonly,
         } => put_publish(out, *id, node.as_str(), capability, *readonly),
         Call::ControllerUnpublishVolume { id, node } => {
-            put_id(out, *id);
-            put_text(out, node.as_str());
+            append_word(out, id.number()).unwrap();
+            append_text(out, node.as_str()).unwrap();
         }
         Call::NodeStageVolume { id, capability } => {
-            put_id(out, *id);
-            put_capability(out, capability);
+            append_word(out, id.number()).unwrap();
+            append_capability(out, capability).unwrap();
         }
         Call::NodePublishVolume {
             id,
@@ -120,23 +116,8 @@ fn put_call(out: &mut Vec<u8>, from: &Call)
             readonly,
         } => put_publish(out, *id, target.as_str(), capability, *readonly),
         Call::NodeUnpublishVolume { id, target } => {
-            put_id(out, *id);
-            put_text(out, target.as_str());
-        }
-    }
-}
-
-#[inline(always)]
-fn put_party(out: &mut Vec<u8>, from: &Party)
-    requires { HasRoom out.old (length (party from.now)) }
-    ensures appends { Appends out.old out.new (party from.now) }
-    ensures fits { IsParty from.now }
-{
-    match from {
-        Party::Controller => put_byte(out, 0),
-        Party::Node(id) => {
-            put_byte(out, 1);
-            put_text(out, id.as_str());
+            append_word(out, id.number()).unwrap();
+            append_text(out, target.as_str()).unwrap();
         }
     }
 }
@@ -186,22 +167,23 @@ fn head_bytes(size: u32, version: Version, kind: u8, number: Number) -> [u8; 22]
 #[inline(always)]
 fn put_head(out: &mut Vec<u8>, size: u32, version: Version, kind: u8, number: Number, from: &Party)
     requires { HasRoom out.old (22 + length (party from.now)) }
-    ensures appends { Appends out.old out.new (head size version kind number ++ party from.now) }
-    ensures number_fits { IsNumber number }
-    ensures fits { IsParty from.now }
+    ensures { Puts out.old out.new (head size version kind number ++ party from.now) (IsNumber number × IsParty from.now) }
 {
     put(out, &head_bytes(size, version, kind, number));
-    put_party(out, from);
+    match from {
+        Party::Controller => append_byte(out, 0).unwrap(),
+        Party::Node(id) => {
+            append_byte(out, 1).unwrap();
+            append_text(out, id.as_str()).unwrap();
+        }
+    }
 }
 
 /// Appends the bytes that spell the frame. It takes no memory but the vector's own, which is asked for
 /// first: with spare capacity for the frame it succeeds, and a refusal leaves the vector's bytes as they
 /// were. This profile's own.
 pub fn encode(frame: &Frame, out: &mut Vec<u8>) -> Result<(), NoMemory>
-    ensures appends { OnOk result (out.new.items ≡ out.old.items ++ spelling frame.now) }
-    ensures spells { OnOk result (Spells frame.now (spelling frame.now)) }
-    ensures err { OnErr result (out.new.items ≡ out.old.items) }
-    ensures spare { vec_len out.old + length (spelling frame.now) ≤ vec_capacity out.old → IsOk result }
+    ensures { Appends out.old out.new (spelling frame.now) (Spells frame.now (spelling frame.now)) result }
 {
     match frame.body() {
         Body::Call(call) => encode_call(frame.number(), frame.party(), call, out),
@@ -218,10 +200,7 @@ fn encode_call(
     call: &Call,
     out: &mut Vec<u8>,
 ) -> Result<(), NoMemory>
-    ensures appends { OnOk result (out.new.items ≡ out.old.items ++ spelling (call_frame number party.now call.now)) }
-    ensures err { OnErr result (out.new.items ≡ out.old.items) }
-    ensures fits { OnOk result (IsNumber number × IsParty party.now × IsCall call.now) }
-    ensures spare { vec_len out.old + length (spelling (call_frame number party.now call.now)) ≤ vec_capacity out.old → IsOk result }
+    ensures { Appends out.old out.new (spelling (call_frame number party.now call.now)) (IsNumber number × IsParty party.now × IsCall call.now) result }
 {
     let size = HEAD + party_len(party) + call_len(call);
     let version = Version::with_new_mode(call_has_new_mode(call));
@@ -241,12 +220,9 @@ pub fn encode_reply(
     reply: &Reply,
     out: &mut Vec<u8>,
 ) -> Result<(), NoMemory>
-    ensures appends { OnOk result (out.new.items ≡ out.old.items ++ spelling (reply_frame number party.now kind reply.now)) }
-    ensures err { OnErr result (out.new.items ≡ out.old.items) }
-    ensures fits { OnOk result (IsNumber number × IsParty party.now × IsReply reply.now) }
-    ensures spare { vec_len out.old + length (spelling (reply_frame number party.now kind reply.now)) ≤ vec_capacity out.old → IsOk result }
+    ensures { Appends out.old out.new (spelling (reply_frame number party.now kind reply.now)) (IsNumber number × IsParty party.now × IsReply reply.now) result }
 {
-    let size = HEAD + party_len(party) + reply_len(reply);
+    let size = HEAD + party_len(party) + 10 + reply.detail.as_str().len();
     out.reserve(4 + size)?;
     put_head(
         out,
@@ -256,6 +232,6 @@ pub fn encode_reply(
         number,
         party,
     );
-    put_reply(out, reply);
+    append_reply(out, reply).unwrap();
     Ok(())
 }
