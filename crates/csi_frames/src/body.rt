@@ -82,15 +82,7 @@ fn fields_at<'a>(
     }
 }
 
-// The same in the first version, of which nearly all frames are: apart, so that no test of the version is left in it.
-#[inline(always)]
-fn first_fields_at<'a>(fields: &mut Fields<'a>, kind: BodyKind) -> Result<BodyRef<'a>, FieldStop>
-    ensures { Gives lent_body result fields.new (fields_at Version.One kind fields.old.bytes.now) }
-{
-    fields_at(fields, Version::One, kind)
-}
-
-// The same in either version.
+// The same, apart for the first version, of which nearly all frames are, so that no test of the version is left in it.
 #[inline(always)]
 fn fields_of_version<'a>(
     fields: &mut Fields<'a>,
@@ -100,7 +92,7 @@ fn fields_of_version<'a>(
     ensures { Gives lent_body result fields.new (fields_at version kind fields.old.bytes.now) }
 {
     match version {
-        Version::One => first_fields_at(fields, kind),
+        Version::One => fields_at(fields, Version::One, kind),
         Version::Two => fields_at(fields, Version::Two, kind),
     }
 }

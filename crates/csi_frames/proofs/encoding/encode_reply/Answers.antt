@@ -14,8 +14,8 @@ returns c =
     let detail : length c.as_str.result.now ≡ length c.args.reply.now.detail = ap length c.as_str.ensures.value in
     let room : vec_len c.put_head.new.out + length (reply_fields c.args.reply.now) ≤ vec_capacity c.put_head.new.out = omega (arith, fields, detail, c.put_head.ensures.len, c.put_head.ensures.capacity, c.party_len.ensures.len, c.in_ok-reserve.ensures.ok) in
     let written = Puts-frame c.reserve.new.self c.put_head.new.out c.append_reply.new.out frame (18 + c.party_len.result + 10 + length c.as_str.result.now) One c.reply_kind_number.result _ _ _
-      (omega (arith, length-frame_body_is frame, c.party_len.ensures.len, fields, detail)) refl c.reply_kind_number.ensures
-      (search rules) c.put_head.ensures (put-in-room c.put_head.new.out c.append_reply.new.out (reply_fields c.args.reply.now) (IsReply c.args.reply.now) c.append_reply.result room c.append_reply.ensures) in
+    (omega (arith, length-frame_body_is frame, c.party_len.ensures.len, fields, detail)) refl c.reply_kind_number.ensures
+    (search rules) c.put_head.ensures (put-in-room c.put_head.new.out c.append_reply.new.out (reply_fields c.args.reply.now) (IsReply c.args.reply.now) c.append_reply.result room c.append_reply.ensures) in
     growth-put c.args.out.now c.reserve.new.self c.append_reply.new.out (spelling frame) (IsNumber c.args.number × IsParty c.args.party.now × IsReply c.args.reply.now) c.in_ok-reserve.ensures.items c.in_ok-reserve.ensures.capacity written
 
 pub returns-in_err-reserve : goal.returns-in_err-reserve
