@@ -14,7 +14,7 @@ use std::alloc::Global;
 /// parts, which are within their limits. This profile's own.
 #[derive(Drop)]
 pub struct FrameRef<'a> {
-    frame: BorrowedFrame<'a>,
+    pub(crate) frame: BorrowedFrame<'a>,
     // What it stands for is what its spelling is read as.
     ghost spelled: { AreBytes (spelling (lent_borrowed_frame frame)) },
     ghost read: { first_frame (spelling (lent_borrowed_frame frame)) ≡ Ok (lent_borrowed_frame frame, length (spelling (lent_borrowed_frame frame))) },
@@ -29,15 +29,6 @@ impl<'a> FrameRef<'a> {
     ghost use Rattle.csi_frames.specs.Public.Lent.{lent_frame, call_of};
     ghost use Rattle.csi_frames.specs.Public.Spelling.{spelling};
     ghost use Rattle.csi_frames.specs.Public.Texts.{IsTextless};
-
-    #[inline(always)]
-    pub(crate) fn new(frame: BorrowedFrame<'a>) -> FrameRef<'a>
-        requires fits { IsFrame (lent_borrowed_frame frame) }
-        requires spelled { AreBytes (spelling (lent_borrowed_frame frame)) }
-        ensures { lent_frame result ≡ lent_borrowed_frame frame.entry }
-    {
-        FrameRef { frame }
-    }
 
     /// The frame with texts of its own. It is refused only where a copy of one of its texts, or of its capabilities, was: a
     /// frame whose texts are all empty or absent takes no memory.

@@ -51,7 +51,7 @@ impl Progress {
             Ok((frame, size)) => {
                 self.start += size;
                 self.taken = self.taken.saturating_add(size as u64);
-                Ok(Some(FrameRef::new(frame)))
+                Ok(Some(FrameRef { frame }))
             }
             Err(fault) if is_short(fault.kind) => Ok(None),
             Err(fault) => {

@@ -4,7 +4,7 @@ use Rattle.csi_frames.specs.Public.Borrowed.{lent_borrowed_frame}
 use Rattle.csi_frames.specs.Public.Lent.{lent_frame}
 use Rattle.csi_frames.proofs.Bytes.{AreBytes-drop}
 use Rattle.csi_frames.proofs.Lengths.{short-spelling}
-use Rattle.csi_frames.proofs.Splitting.{IsNext-found, IsNext-only, AreBytes-spelling, behind-frame, behind-none, behind-fault, shown-frame}
+use Rattle.csi_frames.proofs.Splitting.{IsNext-found, IsNext-only, AreBytes-spelling, spelling-read, behind-frame, behind-none, behind-fault, shown-frame}
 use Rattle.csi_frames.proofs.progress.Progress.next.Goals as goal
 
 pub overflow_add-self : goal.overflow_add-self
@@ -12,14 +12,14 @@ overflow_add-self c =
     let found = behind-frame c.args.self.now.start c.args.buffer.now (lent_borrowed_frame c.in-Ok.frame) c.in-Ok.size (λ i. omega (arith, c.type_inv.buffer i)) c.in-Ok.ensures in
     omega (arith, found.0.within, found.1, length-drop c.args.self.now.start c.args.buffer.now)
 
-pub new-requires : goal.new-requires
-new-requires c =
+pub invariant_of-result : goal.invariant_of-result
+invariant_of-result c =
     let start = c.args.self.now.start in
     let buffer = c.args.buffer.now in
     let found = behind-frame start buffer (lent_borrowed_frame c.in-Ok.frame) c.in-Ok.size (λ i. omega (arith, c.type_inv.buffer i)) c.in-Ok.ensures in
     record {
-      fits = found.0.spelled.fits;
       spelled = AreBytes-spelling (drop start buffer) (lent_borrowed_frame c.in-Ok.frame) _ (AreBytes-drop start buffer (λ i. omega (arith, c.type_inv.buffer i))) found.0;
+      read = spelling-read (lent_borrowed_frame c.in-Ok.frame) found.0.spelled.fits;
     }
 
 pub returns-in-Ok-clause-start : goal.returns-in-Ok-clause-start
@@ -34,19 +34,19 @@ returns-in-Ok-clause-step c =
 
 pub returns-in-Ok-clause-after : goal.returns-in-Ok-clause-after
 returns-in-Ok-clause-after c =
-    let found = behind-frame c.args.self.now.start c.args.buffer.now (lent_frame c.new.result) c.in-Ok.size (λ i. omega (arith, c.type_inv.buffer i)) (c.in-Ok.ensures ∙ ap (λ (f : Frame). Ok (f, c.in-Ok.size)) (sym c.new.ensures)) in
-    shown-frame c.args.self.now.start c.in-Ok.size c.args.self.now.taken c.saturating_add-self.result c.args.self.now.fault c.args.buffer.now (lent_frame c.new.result) found.1 c.saturating_add-self.ensures
+    let found = behind-frame c.args.self.now.start c.args.buffer.now (lent_borrowed_frame c.in-Ok.frame) c.in-Ok.size (λ i. omega (arith, c.type_inv.buffer i)) c.in-Ok.ensures in
+    shown-frame c.args.self.now.start c.in-Ok.size c.args.self.now.taken c.saturating_add-self.result c.args.self.now.fault c.args.buffer.now (lent_borrowed_frame c.in-Ok.frame) found.1 c.saturating_add-self.ensures
 
 pub returns-in-Ok-clause-next : goal.returns-in-Ok-clause-next
 returns-in-Ok-clause-next c =
-    let found = behind-frame c.args.self.now.start c.args.buffer.now (lent_frame c.new.result) c.in-Ok.size (λ i. omega (arith, c.type_inv.buffer i)) (c.in-Ok.ensures ∙ ap (λ (f : Frame). Ok (f, c.in-Ok.size)) (sym c.new.ensures)) in
-    IsNext-found c.args.self.now.fault (drop c.args.self.now.start c.args.buffer.now) (Ok (Some (lent_frame c.new.result))) c.in_default.is found.0
+    let found = behind-frame c.args.self.now.start c.args.buffer.now (lent_borrowed_frame c.in-Ok.frame) c.in-Ok.size (λ i. omega (arith, c.type_inv.buffer i)) c.in-Ok.ensures in
+    IsNext-found c.args.self.now.fault (drop c.args.self.now.start c.args.buffer.now) (Ok (Some (lent_borrowed_frame c.in-Ok.frame))) c.in_default.is found.0
 
 pub returns-in-Ok-clause-only : goal.returns-in-Ok-clause-only
 returns-in-Ok-clause-only c = λ other is.
-    let found = behind-frame c.args.self.now.start c.args.buffer.now (lent_frame c.new.result) c.in-Ok.size (λ i. omega (arith, c.type_inv.buffer i)) (c.in-Ok.ensures ∙ ap (λ (f : Frame). Ok (f, c.in-Ok.size)) (sym c.new.ensures)) in
-    IsNext-only c.args.self.now.fault (drop c.args.self.now.start c.args.buffer.now) (Ok (Some (lent_frame c.new.result))) other (AreBytes-drop c.args.self.now.start c.args.buffer.now (λ i. omega (arith, c.type_inv.buffer i)))
-    (IsNext-found c.args.self.now.fault (drop c.args.self.now.start c.args.buffer.now) (Ok (Some (lent_frame c.new.result))) c.in_default.is found.0) is
+    let found = behind-frame c.args.self.now.start c.args.buffer.now (lent_borrowed_frame c.in-Ok.frame) c.in-Ok.size (λ i. omega (arith, c.type_inv.buffer i)) c.in-Ok.ensures in
+    IsNext-only c.args.self.now.fault (drop c.args.self.now.start c.args.buffer.now) (Ok (Some (lent_borrowed_frame c.in-Ok.frame))) other (AreBytes-drop c.args.self.now.start c.args.buffer.now (λ i. omega (arith, c.type_inv.buffer i)))
+    (IsNext-found c.args.self.now.fault (drop c.args.self.now.start c.args.buffer.now) (Ok (Some (lent_borrowed_frame c.in-Ok.frame))) c.in_default.is found.0) is
 
 pub returns-in-Err-clause-next : goal.returns-in-Err-clause-next
 returns-in-Err-clause-next c =
