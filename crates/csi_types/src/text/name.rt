@@ -1,10 +1,11 @@
 //! A volume's name.
-ghost use Rattle.std.specs.Prelude.{◌≡◌, ◌<◌, ◌≤◌, ◌↔◌, [], length, IfOk, IsErrOf, nat_eq};
+ghost use Rattle.std.specs.Prelude.{nat_eq};
 ghost use Rattle.std.specs.Cmp.Lexicographic.{pointwise, nat_list_eq_equiv};
 ghost use Rattle.std.specs.Cmp.{partial_equiv_from_equiv};
 ghost use Rattle.std.specs.Cmp.Rules.{hashing};
 ghost use Rattle.std.specs.Hash as fed;
 ghost use Rattle.std.proofs.Common.{rules};
+ghost use Rattle.csi_types.specs.Public.Made.{IsTextOf, Shows};
 ghost use Rattle.csi_types.specs.Public.Text.{IsName};
 
 use super::{TextFault, copied};
@@ -44,10 +45,7 @@ impl Name {
     /// A name with this text: `Empty` where it has no bytes, `TooLong` where it has more than 128, and
     /// `NoMemory` where a growth is refused.
     pub fn try_new(alloc: Global, text: &str) -> Result<Name, TextFault>
-        ensures ok { IfOk result (λ name. name ≡ text.now) }
-        ensures empty { IsErrOf result TextFault.Empty ↔ (text.now ≡ []) }
-        ensures too_long { IsErrOf result TextFault.TooLong ↔ (128 < length text.now) }
-        ensures memory { IsErrOf result TextFault.NoMemory → IsName text.now }
+        ensures { IsTextOf 128 text.now result }
     {
         if text.is_empty() {
             return Err(TextFault::Empty);
@@ -58,8 +56,7 @@ impl Name {
 
     /// The name's text.
     pub fn as_str(&self) -> &str
-        ensures value { result.now ≡ self.now }
-        ensures limits { IsName self.now }
+        ensures { Shows IsName self.now result.now }
     {
         self.text.as_str()
     }

@@ -1,7 +1,8 @@
 //! A path at which a volume is published.
-ghost use Rattle.std.specs.Prelude.{◌≡◌, ◌<◌, ◌≤◌, ◌↔◌, [], length, IfOk, IsErrOf, nat_eq};
+ghost use Rattle.std.specs.Prelude.{nat_eq};
 ghost use Rattle.std.specs.Cmp.Lexicographic.{pointwise, nat_list_eq_equiv};
 ghost use Rattle.std.specs.Cmp.{partial_equiv_from_equiv};
+ghost use Rattle.csi_types.specs.Public.Made.{IsTextOf, Shows};
 ghost use Rattle.csi_types.specs.Public.Text.{IsTarget};
 
 use super::{TextFault, copied};
@@ -40,10 +41,7 @@ impl Target {
     /// A target with this text: `Empty` where it has no bytes, `TooLong` where it has more than 255, and
     /// `NoMemory` where a growth is refused.
     pub fn try_new(alloc: Global, text: &str) -> Result<Target, TextFault>
-        ensures ok { IfOk result (λ target. target ≡ text.now) }
-        ensures empty { IsErrOf result TextFault.Empty ↔ (text.now ≡ []) }
-        ensures too_long { IsErrOf result TextFault.TooLong ↔ (255 < length text.now) }
-        ensures memory { IsErrOf result TextFault.NoMemory → IsTarget text.now }
+        ensures { IsTextOf 255 text.now result }
     {
         if text.is_empty() {
             return Err(TextFault::Empty);
@@ -54,8 +52,7 @@ impl Target {
 
     /// The target's text.
     pub fn as_str(&self) -> &str
-        ensures value { result.now ≡ self.now }
-        ensures limits { IsTarget self.now }
+        ensures { Shows IsTarget self.now result.now }
     {
         self.text.as_str()
     }

@@ -4,5 +4,5 @@ use Rattle.csi_types.proofs.text.target.Target.try_new.Goals as goal
 pub invariant_of-result : goal.invariant_of-result
 invariant_of-result c = search rules
 
-pub returns-clause-empty : goal.returns-clause-empty
-returns-clause-empty c = search rules
+pub returns : goal.returns
+returns c = search rules
