@@ -6,7 +6,7 @@ ghost use Rattle.csi_types.specs.Public.Detail.{text_bytes};
 ghost use Rattle.csi_types.specs.Public.Made.{IsCopyOf, Shows};
 ghost use Rattle.csi_types.specs.Public.Text.{IsDetail};
 
-use super::{TextFault, copied};
+use super::TextFault;
 use arrayvec::ArrayString;
 use std::alloc::Global;
 use std::marker::Model;
@@ -72,10 +72,15 @@ impl Detail {
                 text: Text::Inline(text),
             });
         }
-        let text = copied(alloc, text, Detail::MAX_LEN)?;
-        Ok(Detail {
-            text: Text::Heap(text),
-        })
+        if text.len() > Detail::MAX_LEN {
+            return Err(TextFault::TooLong);
+        }
+        match String::from_str(alloc, text) {
+            Ok(text) => Ok(Detail {
+                text: Text::Heap(text),
+            }),
+            Err(_) => Err(TextFault::NoMemory),
+        }
     }
 
     /// The detail's text.

@@ -5,7 +5,7 @@ ghost use Rattle.std.specs.Cmp.{partial_equiv_from_equiv};
 ghost use Rattle.csi_types.specs.Public.Made.{IsCopyOf, Shows};
 ghost use Rattle.csi_types.specs.Public.Text.{IsFsType};
 
-use super::{TextFault, copied};
+use super::TextFault;
 use std::alloc::Global;
 use std::marker::Model;
 
@@ -43,8 +43,18 @@ impl FsType {
     pub fn try_new(alloc: Global, text: &str) -> Result<FsType, TextFault>
         ensures { IsCopyOf text.now (128 < length text.now) (IsFsType text.now) (text.now ≡ []) result }
     {
-        let text = copied(alloc, text, FsType::MAX_LEN)?;
-        Ok(FsType { text })
+        if text.len() > FsType::MAX_LEN {
+            return Err(TextFault::TooLong);
+        }
+        if text.is_empty() {
+            return Ok(FsType {
+                text: String::new(alloc),
+            });
+        }
+        match String::from_str(alloc, text) {
+            Ok(text) => Ok(FsType { text }),
+            Err(_) => Err(TextFault::NoMemory),
+        }
     }
 
     /// The fs type's text.
