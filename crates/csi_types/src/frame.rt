@@ -2,7 +2,7 @@
 ghost use Rattle.std.specs.Prelude.{◌≡◌, IsTrue};
 ghost use Rattle.csi_types.specs.Model.Call.{kind_of};
 ghost use Rattle.csi_types.specs.Public.Call.{is_party_of};
-ghost use Rattle.csi_types.specs.Public.Made.{IsGivenIf};
+ghost use Rattle.csi_types.specs.Public.Made.{IsGivenIf, Shows};
 ghost use Rattle.csi_types.specs.Public.Reply.{has_id_by_rule};
 
 use crate::call::{Call, Kind, Party};
@@ -88,8 +88,7 @@ impl Frame {
 
     /// The call or the reply.
     pub fn body(&self) -> &Body
-        ensures value { result.now ≡ self.now.body }
-        ensures allowed { IsAllowed self.now.party self.now.body }
+        ensures { Shows (IsAllowed self.now.party) self.now.body result.now }
     {
         &self.body
     }

@@ -6,7 +6,6 @@ ghost use Rattle.csi_types.specs.Public.Lent.{lent_access, lent_capability, lent
 ghost use Rattle.csi_types.specs.Public.Made.{IsCopyOf};
 ghost use Rattle.csi_types.specs.Public.Limits.{IsAccess};
 ghost use Rattle.csi_types.specs.Model.Same.{has_capability as is_among};
-ghost use Rattle.csi_types.specs.Public.Text.{IsText};
 
 use crate::call::{Call, Kind};
 use crate::capability::{Access, Capability, CapabilityList, has_capability};
@@ -227,20 +226,13 @@ fn has_each(own: &[Capability], wished: &[Capability]) -> bool
     true
 }
 
-// Whether a text has so many bytes.
-fn fits(text: &str, least: usize, most: usize) -> bool
-    ensures { IsTrue result ↔ IsText least most text.now }
-{
-    least <= text.len() && text.len() <= most
-}
-
 // Whether the type of a file system is within its limit.
 fn fits_access(access: &AccessRef<'_>) -> bool
     ensures { IsTrue result ↔ IsAccess (lent_access access.now) }
 {
-    match access {
+    match *access {
         AccessRef::Block => true,
-        AccessRef::Mount(text) => fits(text, 0, FsType::MAX_LEN),
+        AccessRef::Mount(text) => text.len() <= FsType::MAX_LEN,
     }
 }
 
@@ -265,23 +257,29 @@ impl CallRef<'_> {
     pub fn is_within_limits(&self) -> bool
         ensures { IsTrue result ↔ HasFitTexts (lent_call self.now) }
     {
-        match self {
-            CallRef::CreateVolume { name, .. } => fits(name, 1, Name::MAX_LEN),
+        match *self {
+            CallRef::CreateVolume { name, .. } => !name.is_empty() && name.len() <= Name::MAX_LEN,
             CallRef::DeleteVolume { .. } => true,
             CallRef::ControllerPublishVolume {
                 node,
                 capability,
                 ..
-            } => fits(node, 1, NodeId::MAX_LEN) && fits_access(&capability.access),
-            CallRef::ControllerUnpublishVolume { node, .. } => fits(node, 1, NodeId::MAX_LEN),
+            } => !node.is_empty()
+                && node.len() <= NodeId::MAX_LEN
+                && fits_access(&capability.access),
+            CallRef::ControllerUnpublishVolume { node, .. } => !node.is_empty()
+                && node.len() <= NodeId::MAX_LEN,
             CallRef::NodeStageVolume { capability, .. } => fits_access(&capability.access),
             CallRef::NodeUnstageVolume { .. } => true,
             CallRef::NodePublishVolume {
                 target,
                 capability,
                 ..
-            } => fits(target, 1, Target::MAX_LEN) && fits_access(&capability.access),
-            CallRef::NodeUnpublishVolume { target, .. } => fits(target, 1, Target::MAX_LEN),
+            } => !target.is_empty()
+                && target.len() <= Target::MAX_LEN
+                && fits_access(&capability.access),
+            CallRef::NodeUnpublishVolume { target, .. } => !target.is_empty()
+                && target.len() <= Target::MAX_LEN,
         }
     }
 }

@@ -22,17 +22,6 @@ enum Text {
     Heap(String),
 }
 
-impl Text {
-    fn as_str(&self) -> &str
-        ensures { result.now ≡ text_bytes self.now }
-    {
-        match self {
-            Text::Inline(text) => text.as_str(),
-            Text::Heap(text) => text.as_str(),
-        }
-    }
-}
-
 /// What a reply says beside its status: at most 255 bytes of UTF-8, empty where the status says all
 /// (this profile's own; CSI leaves a human-readable message to the RPC library).
 #[derive(Clone, Debug)]
@@ -87,7 +76,10 @@ impl Detail {
     pub fn as_str(&self) -> &str
         ensures { Shows IsDetail self.now result.now }
     {
-        self.text.as_str()
+        match &self.text {
+            Text::Inline(text) => text.as_str(),
+            Text::Heap(text) => text.as_str(),
+        }
     }
 }
 
