@@ -1,6 +1,7 @@
 pub mod Places
 pub mod Text
 pub mod TextFault
+pub mod Made
 pub mod Detail
 pub mod Mode
 pub mod VolumeId

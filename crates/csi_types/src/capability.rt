@@ -1,7 +1,8 @@
 //! What a volume can do.
-ghost use Rattle.std.specs.Prelude.{◌≡◌, ◌≤◌, ◌↔◌, length, IsSome, IfSome, vec_len};
-ghost use Rattle.csi_types.specs.Public.Lent.{lent_access, lent_capability};
-ghost use Rattle.csi_types.specs.Model.Same.{same_access as is_same_access, same_capability as is_same_capability, has_capability as is_among};
+ghost use Rattle.std.specs.Prelude.{◌≡◌, ◌≤◌, length, vec_len};
+ghost use Rattle.csi_types.specs.Public.Lent.{lent_capability};
+ghost use Rattle.csi_types.specs.Public.Made.{IsGivenIf, Shows};
+ghost use Rattle.csi_types.specs.Model.Same.{same_capability as is_same_capability, has_capability as is_among};
 
 use crate::lent::{AccessRef, CapabilityRef};
 use crate::mode::Mode;
@@ -24,24 +25,20 @@ pub struct Capability {
     pub mode: Mode,
 }
 
-// Whether both are block, or both mount the same type of file system.
-fn same_access(a: AccessRef, b: AccessRef) -> bool
-    ensures { result ≡ is_same_access (lent_access a.entry) (lent_access b.entry) }
+/// Whether the mode is the same, and both are block, or both mount the same type of file system. It takes no memory.
+pub fn same_capability(a: CapabilityRef, b: CapabilityRef) -> bool
+    ensures { result ≡ is_same_capability (lent_capability a.entry) (lent_capability b.entry) }
 {
-    match a {
-        AccessRef::Block => matches!(b, AccessRef::Block),
-        AccessRef::Mount(own) => match b {
+    if a.mode != b.mode {
+        return false;
+    }
+    match a.access {
+        AccessRef::Block => matches!(b.access, AccessRef::Block),
+        AccessRef::Mount(own) => match b.access {
             AccessRef::Block => false,
             AccessRef::Mount(other) => own == other,
         },
     }
-}
-
-/// Whether access and mode are the same. It takes no memory.
-pub fn same_capability(a: CapabilityRef, b: CapabilityRef) -> bool
-    ensures { result ≡ is_same_capability (lent_capability a.entry) (lent_capability b.entry) }
-{
-    a.mode == b.mode && same_access(a.access, b.access)
 }
 
 /// Whether the capability is one of these. It takes no memory.
@@ -82,8 +79,7 @@ impl CapabilityList {
 
     /// A list of these capabilities, or `None` where there are more than 8. It takes no memory.
     pub fn try_new(items: Vec<Capability>) -> Option<CapabilityList>
-        ensures some { IsSome result ↔ (vec_len items ≤ 8) }
-        ensures value { IfSome result (λ list. list ≡ items.items) }
+        ensures { IsGivenIf (vec_len items ≤ 8) items.items result }
     {
         if items.len() > CapabilityList::MAX_LEN {
             return None;
@@ -93,8 +89,7 @@ impl CapabilityList {
 
     /// The capabilities in order.
     pub fn as_slice(&self) -> &[Capability]
-        ensures value { result.now ≡ self.now }
-        ensures limit { length self.now ≤ 8 }
+        ensures { Shows (λ list. length list ≤ 8) self.now result.now }
     {
         self.items.as_slice()
     }

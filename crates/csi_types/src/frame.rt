@@ -1,7 +1,8 @@
 //! Frames: a call or a reply with its number and its party.
-ghost use Rattle.std.specs.Prelude.{◌≡◌, ◌↔◌, IsTrue, IsSome, IfSome};
+ghost use Rattle.std.specs.Prelude.{◌≡◌, IsTrue};
 ghost use Rattle.csi_types.specs.Model.Call.{kind_of};
 ghost use Rattle.csi_types.specs.Public.Call.{is_party_of};
+ghost use Rattle.csi_types.specs.Public.Made.{IsGivenIf, Shows};
 ghost use Rattle.csi_types.specs.Public.Reply.{has_id_by_rule};
 
 use crate::call::{Call, Kind, Party};
@@ -43,8 +44,7 @@ impl Frame {
 
     /// A call for a plugin, or `None` where calls of its kind aren't for that plugin. It takes no memory.
     pub fn call(number: Number, party: Party, call: Call) -> Option<Frame>
-        ensures some { IsSome result ↔ IsTrue (is_party_of (kind_of call) party) }
-        ensures value { IfSome result (λ frame. frame ≡ record { number = number; party = party; body = Body.Call call }) }
+        ensures { IsGivenIf (IsTrue (is_party_of (kind_of call) party)) record { number = number; party = party; body = Body.Call call } result }
     {
         if !call.kind().is_for(&party) {
             return None;
@@ -60,8 +60,7 @@ impl Frame {
     /// where the reply has an id and isn't an `Ok` to CreateVolume, and where it is one and has none.
     /// It takes no memory.
     pub fn reply(number: Number, party: Party, kind: Kind, reply: Reply) -> Option<Frame>
-        ensures some { IsSome result ↔ (IsTrue (is_party_of kind party) × IsTrue (has_id_by_rule kind reply)) }
-        ensures value { IfSome result (λ frame. frame ≡ record { number = number; party = party; body = Body.Reply kind reply }) }
+        ensures { IsGivenIf (IsTrue (is_party_of kind party) × IsTrue (has_id_by_rule kind reply)) record { number = number; party = party; body = Body.Reply kind reply } result }
     {
         if !kind.is_for(&party) || !reply.has_id_by_rule(kind) {
             return None;
@@ -89,8 +88,7 @@ impl Frame {
 
     /// The call or the reply.
     pub fn body(&self) -> &Body
-        ensures value { result.now ≡ self.now.body }
-        ensures allowed { IsAllowed self.now.party self.now.body }
+        ensures { Shows (IsAllowed self.now.party) self.now.body result.now }
     {
         &self.body
     }

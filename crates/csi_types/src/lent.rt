@@ -1,11 +1,11 @@
 //! Calls that lend their texts: whoever keeps a part of one makes a copy of that part, and nobody else does.
-ghost use Rattle.std.specs.Prelude.{◌≡◌, ◌==◌, ◌≤◌, ◌↔◌, ◌&&◌, IfOk, IsOk, IsErrOf, IsTrue, length};
+ghost use Rattle.std.specs.Prelude.{◌≡◌, ◌==◌, ◌↔◌, IfOk, IsTrue, length};
 ghost use Rattle.std.specs.List.{list_all};
 ghost use Rattle.csi_types.specs.Model.Call.{kind_of};
 ghost use Rattle.csi_types.specs.Public.Lent.{lent_access, lent_capability, lent_capabilities, lent_call, HasFitTexts, IsTooLong, HasNoText};
+ghost use Rattle.csi_types.specs.Public.Made.{IsCopyOf};
 ghost use Rattle.csi_types.specs.Public.Limits.{IsAccess};
 ghost use Rattle.csi_types.specs.Model.Same.{has_capability as is_among};
-ghost use Rattle.csi_types.specs.Public.Text.{IsText};
 
 use crate::call::{Call, Kind};
 use crate::capability::{Access, Capability, CapabilityList, has_capability};
@@ -80,26 +80,21 @@ pub enum CallRef<'a> {
     },
 }
 
-impl Access {
-    // The access, lent.
-    fn lend(&self) -> AccessRef<'_>
-        ensures { lent_access result ≡ self.now }
-    {
-        match self {
-            Access::Block => AccessRef::Block,
-            Access::Mount(fs_type) => AccessRef::Mount(fs_type.as_str()),
-        }
-    }
-}
-
 impl Capability {
     /// The capability, lent. It takes no memory.
     pub fn lend(&self) -> CapabilityRef<'_>
         ensures { lent_capability result ≡ self.now }
     {
-        CapabilityRef {
-            access: self.access.lend(),
-            mode: self.mode,
+        let mode = self.mode;
+        match &self.access {
+            Access::Block => CapabilityRef {
+                access: AccessRef::Block,
+                mode,
+            },
+            Access::Mount(fs_type) => CapabilityRef {
+                access: AccessRef::Mount(fs_type.as_str()),
+                mode,
+            },
         }
     }
 }
@@ -161,39 +156,25 @@ impl Call {
     }
 }
 
-impl AccessRef<'_> {
-    // The access with a text of its own.
-    fn to_access(self, alloc: Global) -> Result<Access, TextFault>
-        ensures ok { IfOk result (λ access. access ≡ lent_access self.entry) }
-        ensures never_empty { IsErrOf result TextFault.Empty → ⊥ }
-        ensures too_long { IsErrOf result TextFault.TooLong ↔ IsTooLong self.entry }
-        ensures memory { IsErrOf result TextFault.NoMemory → IsAccess (lent_access self.entry) }
-        ensures textless { HasNoText self.entry → IsOk result }
-    {
-        match self {
-            AccessRef::Block => Ok(Access::Block),
-            AccessRef::Mount(text) => match FsType::try_new(alloc, text) {
-                Ok(fs_type) => Ok(Access::Mount(fs_type)),
-                Err(fault) => Err(fault),
-            },
-        }
-    }
-}
-
 impl CapabilityRef<'_> {
     /// The capability with a text of its own: `TooLong` where the type of its file system has more than 128 bytes, `NoMemory`
     /// where a growth is refused. Without a text, and with an empty one, it takes no memory.
     pub fn to_capability(self, alloc: Global) -> Result<Capability, TextFault>
-        ensures ok { IfOk result (λ capability. capability ≡ lent_capability self.entry) }
-        ensures never_empty { IsErrOf result TextFault.Empty → ⊥ }
-        ensures too_long { IsErrOf result TextFault.TooLong ↔ IsTooLong self.entry.access }
-        ensures memory { IsErrOf result TextFault.NoMemory → IsAccess (lent_access self.entry.access) }
-        ensures textless { HasNoText self.entry.access → IsOk result }
+        ensures { IsCopyOf (lent_capability self.entry) (IsTooLong self.entry.access) (IsAccess (lent_access self.entry.access)) (HasNoText self.entry.access) result }
     {
         let mode = self.mode;
-        match self.access.to_access(alloc) {
-            Ok(access) => Ok(Capability { access, mode }),
-            Err(fault) => Err(fault),
+        match self.access {
+            AccessRef::Block => Ok(Capability {
+                access: Access::Block,
+                mode,
+            }),
+            AccessRef::Mount(text) => match FsType::try_new(alloc, text) {
+                Ok(fs_type) => Ok(Capability {
+                    access: Access::Mount(fs_type),
+                    mode,
+                }),
+                Err(fault) => Err(fault),
+            },
         }
     }
 }
@@ -245,20 +226,13 @@ fn has_each(own: &[Capability], wished: &[Capability]) -> bool
     true
 }
 
-// Whether a text has so many bytes.
-fn fits(text: &str, least: usize, most: usize) -> bool
-    ensures { IsTrue result ↔ IsText least most text.now }
-{
-    least <= text.len() && text.len() <= most
-}
-
 // Whether the type of a file system is within its limit.
 fn fits_access(access: &AccessRef<'_>) -> bool
     ensures { IsTrue result ↔ IsAccess (lent_access access.now) }
 {
-    match access {
+    match *access {
         AccessRef::Block => true,
-        AccessRef::Mount(text) => fits(text, 0, FsType::MAX_LEN),
+        AccessRef::Mount(text) => text.len() <= FsType::MAX_LEN,
     }
 }
 
@@ -283,23 +257,29 @@ impl CallRef<'_> {
     pub fn is_within_limits(&self) -> bool
         ensures { IsTrue result ↔ HasFitTexts (lent_call self.now) }
     {
-        match self {
-            CallRef::CreateVolume { name, .. } => fits(name, 1, Name::MAX_LEN),
+        match *self {
+            CallRef::CreateVolume { name, .. } => !name.is_empty() && name.len() <= Name::MAX_LEN,
             CallRef::DeleteVolume { .. } => true,
             CallRef::ControllerPublishVolume {
                 node,
                 capability,
                 ..
-            } => fits(node, 1, NodeId::MAX_LEN) && fits_access(&capability.access),
-            CallRef::ControllerUnpublishVolume { node, .. } => fits(node, 1, NodeId::MAX_LEN),
+            } => !node.is_empty()
+                && node.len() <= NodeId::MAX_LEN
+                && fits_access(&capability.access),
+            CallRef::ControllerUnpublishVolume { node, .. } => !node.is_empty()
+                && node.len() <= NodeId::MAX_LEN,
             CallRef::NodeStageVolume { capability, .. } => fits_access(&capability.access),
             CallRef::NodeUnstageVolume { .. } => true,
             CallRef::NodePublishVolume {
                 target,
                 capability,
                 ..
-            } => fits(target, 1, Target::MAX_LEN) && fits_access(&capability.access),
-            CallRef::NodeUnpublishVolume { target, .. } => fits(target, 1, Target::MAX_LEN),
+            } => !target.is_empty()
+                && target.len() <= Target::MAX_LEN
+                && fits_access(&capability.access),
+            CallRef::NodeUnpublishVolume { target, .. } => !target.is_empty()
+                && target.len() <= Target::MAX_LEN,
         }
     }
 }

@@ -1,5 +1,6 @@
 //! A volume's id.
-ghost use Rattle.std.specs.Prelude.{◌≡◌, ◌<◌, ◌≢◌, IsSome, IfSome, ◌↔◌};
+ghost use Rattle.std.specs.Prelude.{◌≡◌, ◌<◌};
+ghost use Rattle.csi_types.specs.Public.Made.{IsGivenIf, Shows};
 ghost use Rattle.csi_types.specs.Public.VolumeId.{IsVolumeId};
 
 use std::marker::Model;
@@ -27,8 +28,7 @@ impl Model for VolumeId {
 impl VolumeId {
     /// The id of this number, or `None` for 0. It takes no memory.
     pub fn try_new(number: u64) -> Option<VolumeId>
-        ensures some { IsSome result ↔ (0 < number) }
-        ensures value { IfSome result (λ id. id ≡ number) }
+        ensures { IsGivenIf (0 < number) number result }
     {
         if number == 0 {
             return None;
@@ -38,8 +38,7 @@ impl VolumeId {
 
     /// The id's number.
     pub fn number(self) -> u64
-        ensures value { result ≡ self }
-        ensures limits { IsVolumeId self }
+        ensures { Shows IsVolumeId self result }
     {
         self.number
     }

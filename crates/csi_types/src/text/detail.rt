@@ -1,11 +1,12 @@
 //! What a reply says beside its status.
-ghost use Rattle.std.specs.Prelude.{◌≡◌, ◌<◌, ◌≤◌, ◌↔◌, length, IfOk, IsOk, IsErrOf, nat_eq};
+ghost use Rattle.std.specs.Prelude.{◌≡◌, ◌<◌, ◌≤◌, length, nat_eq};
 ghost use Rattle.std.specs.Cmp.Lexicographic.{pointwise, nat_list_eq_equiv};
 ghost use Rattle.std.specs.Cmp.{partial_equiv_from_equiv};
 ghost use Rattle.csi_types.specs.Public.Detail.{text_bytes};
+ghost use Rattle.csi_types.specs.Public.Made.{IsCopyOf, Shows};
 ghost use Rattle.csi_types.specs.Public.Text.{IsDetail};
 
-use super::{TextFault, copied};
+use super::TextFault;
 use arrayvec::ArrayString;
 use std::alloc::Global;
 use std::marker::Model;
@@ -19,17 +20,6 @@ const INLINE_LEN: usize = 23;
 enum Text {
     Inline(ArrayString<INLINE_LEN>),
     Heap(String),
-}
-
-impl Text {
-    fn as_str(&self) -> &str
-        ensures { result.now ≡ text_bytes self.now }
-    {
-        match self {
-            Text::Inline(text) => text.as_str(),
-            Text::Heap(text) => text.as_str(),
-        }
-    }
 }
 
 /// What a reply says beside its status: at most 255 bytes of UTF-8, empty where the status says all
@@ -64,29 +54,32 @@ impl Detail {
     /// A detail with this text: `TooLong` where it has more than 255 bytes, `NoMemory` where a growth is
     /// refused. `Empty` is never answered, and a text of at most 23 bytes takes no memory.
     pub fn try_new(alloc: Global, text: &str) -> Result<Detail, TextFault>
-        ensures ok { IfOk result (λ detail. detail ≡ text.now) }
-        ensures never_empty { IsErrOf result TextFault.Empty → ⊥ }
-        ensures too_long { IsErrOf result TextFault.TooLong ↔ (255 < length text.now) }
-        ensures memory { IsErrOf result TextFault.NoMemory → IsDetail text.now }
-        ensures short_succeeds { length text.now ≤ 23 → IsOk result }
+        ensures { IsCopyOf text.now (255 < length text.now) (IsDetail text.now) (length text.now ≤ 23) result }
     {
         if let Ok(text) = ArrayString::from(text) {
             return Ok(Detail {
                 text: Text::Inline(text),
             });
         }
-        let text = copied(alloc, text, Detail::MAX_LEN)?;
-        Ok(Detail {
-            text: Text::Heap(text),
-        })
+        if text.len() > Detail::MAX_LEN {
+            return Err(TextFault::TooLong);
+        }
+        match String::from_str(alloc, text) {
+            Ok(text) => Ok(Detail {
+                text: Text::Heap(text),
+            }),
+            Err(_) => Err(TextFault::NoMemory),
+        }
     }
 
     /// The detail's text.
     pub fn as_str(&self) -> &str
-        ensures value { result.now ≡ self.now }
-        ensures limits { IsDetail self.now }
+        ensures { Shows IsDetail self.now result.now }
     {
-        self.text.as_str()
+        match &self.text {
+            Text::Inline(text) => text.as_str(),
+            Text::Heap(text) => text.as_str(),
+        }
     }
 }
 

@@ -1,10 +1,11 @@
 //! A file system's type.
-ghost use Rattle.std.specs.Prelude.{◌≡◌, ◌<◌, ◌≤◌, ◌↔◌, [], length, IfOk, IsOk, IsErrOf, nat_eq};
+ghost use Rattle.std.specs.Prelude.{◌≡◌, ◌<◌, [], length, nat_eq};
 ghost use Rattle.std.specs.Cmp.Lexicographic.{pointwise, nat_list_eq_equiv};
 ghost use Rattle.std.specs.Cmp.{partial_equiv_from_equiv};
+ghost use Rattle.csi_types.specs.Public.Made.{IsCopyOf, Shows};
 ghost use Rattle.csi_types.specs.Public.Text.{IsFsType};
 
-use super::{TextFault, copied};
+use super::TextFault;
 use std::alloc::Global;
 use std::marker::Model;
 
@@ -40,20 +41,25 @@ impl FsType {
     /// An fs type with this text: `TooLong` where it has more than 128 bytes, `NoMemory` where a growth is
     /// refused. `Empty` is never answered, and an empty text takes no memory.
     pub fn try_new(alloc: Global, text: &str) -> Result<FsType, TextFault>
-        ensures ok { IfOk result (λ fs_type. fs_type ≡ text.now) }
-        ensures never_empty { IsErrOf result TextFault.Empty → ⊥ }
-        ensures too_long { IsErrOf result TextFault.TooLong ↔ (128 < length text.now) }
-        ensures memory { IsErrOf result TextFault.NoMemory → IsFsType text.now }
-        ensures empty_succeeds { text.now ≡ [] → IsOk result }
+        ensures { IsCopyOf text.now (128 < length text.now) (IsFsType text.now) (text.now ≡ []) result }
     {
-        let text = copied(alloc, text, FsType::MAX_LEN)?;
-        Ok(FsType { text })
+        if text.len() > FsType::MAX_LEN {
+            return Err(TextFault::TooLong);
+        }
+        if text.is_empty() {
+            return Ok(FsType {
+                text: String::new(alloc),
+            });
+        }
+        match String::from_str(alloc, text) {
+            Ok(text) => Ok(FsType { text }),
+            Err(_) => Err(TextFault::NoMemory),
+        }
     }
 
     /// The fs type's text.
     pub fn as_str(&self) -> &str
-        ensures value { result.now ≡ self.now }
-        ensures limits { IsFsType self.now }
+        ensures { Shows IsFsType self.now result.now }
     {
         self.text.as_str()
     }

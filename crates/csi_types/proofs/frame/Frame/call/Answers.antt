@@ -4,5 +4,5 @@ use Rattle.csi_types.proofs.frame.Frame.call.Goals as goal
 pub invariant_of-result : goal.invariant_of-result
 invariant_of-result c = search rules
 
-pub returns-clause-some : goal.returns-clause-some
-returns-clause-some c = search rules
+pub returns : goal.returns
+returns c = search rules

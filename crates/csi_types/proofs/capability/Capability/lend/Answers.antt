@@ -1,5 +1,0 @@
-use Rattle.std.proofs.Common.{rules}
-use Rattle.csi_types.proofs.capability.Capability.lend.Goals as goal
-
-pub returns : goal.returns
-returns c = search rules

@@ -1,8 +1,0 @@
-use Rattle.std.proofs.Common.{rules}
-use Rattle.csi_types.proofs.text.target.Target.try_new.Goals as goal
-
-pub invariant_of-result : goal.invariant_of-result
-invariant_of-result c = search rules
-
-pub returns-clause-empty : goal.returns-clause-empty
-returns-clause-empty c = search rules
