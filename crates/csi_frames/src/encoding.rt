@@ -1,6 +1,7 @@
 //! Frames written as bytes.
 ghost use Rattle.std.specs.Prelude.{◌≡◌, ◌≤◌, ◌+◌, ◌++◌, length};
 ghost use Rattle.csi_types.specs.Public.VolumeId.{IsVolumeId};
+ghost use Rattle.csi_types.specs.Public.Text.{IsText};
 ghost use Rattle.csi_types.specs.Public.Limits.{IsNumber, IsCapability, IsParty, IsCall, IsReply};
 ghost use Rattle.csi_types.specs.Model.Replies.{call_frame, reply_frame};
 ghost use Rattle.csi_frames.specs.Private.Puts.{Puts, HasRoom};
@@ -16,7 +17,9 @@ use crate::writing::{
     capabilities_len, capability_len, put, put_capabilities,
 };
 use byteorder::{BigEndian, ByteOrder};
-use csi_types::{Body, Call, Capability, Frame, Kind, NoMemory, Number, Party, Reply, VolumeId};
+use csi_types::{
+    Body, Call, Capability, Frame, Kind, LimitedText, NoMemory, Number, Party, Reply, VolumeId,
+};
 
 /// A body's version, kind and the two parts of its number, which stand before the party.
 const HEAD: usize = 1 + 1 + 8 + 8;
@@ -63,10 +66,15 @@ fn party_len(from: &Party) -> usize
 // ---- the bytes themselves. Each function has room for what it writes, and so takes no memory.
 
 // A volume, the node or the target that it goes to, and how it is to be used there.
-fn put_publish(out: &mut Vec<u8>, id: VolumeId, to: &str, usage: &Capability, readonly: bool)
-    requires short { length to.now ≤ 255 }
-    requires room { HasRoom out.old (length (word id ++ text to.now ++ capability usage.now ++ flag readonly)) }
-    ensures { Puts out.old out.new (word id ++ text to.now ++ capability usage.now ++ flag readonly) (IsVolumeId id × IsCapability usage.now) }
+fn put_publish<Of>(
+    out: &mut Vec<u8>,
+    id: VolumeId,
+    to: &LimitedText<Of, 255>,
+    usage: &Capability,
+    readonly: bool,
+)
+    requires { HasRoom out.old (length (word id ++ text to.now ++ capability usage.now ++ flag readonly)) }
+    ensures { Puts out.old out.new (word id ++ text to.now ++ capability usage.now ++ flag readonly) (IsVolumeId id × IsText 1 255 to.now × IsCapability usage.now) }
 {
     append_word(out, id.number()).unwrap();
     append_text(out, to).unwrap();
@@ -86,7 +94,7 @@ fn put_call(out: &mut Vec<u8>, from: &Call)
             capabilities,
         } => {
             let capabilities = capabilities.as_slice();
-            append_text(out, name.as_str()).unwrap();
+            append_text(out, name).unwrap();
             append_word(out, *required).unwrap();
             append_word(out, *limit).unwrap();
             append_byte(out, capabilities.len() as u8).unwrap();
@@ -100,10 +108,10 @@ fn put_call(out: &mut Vec<u8>, from: &Call)
             node,
             capability,
             readonly,
-        } => put_publish(out, *id, node.as_str(), capability, *readonly),
+        } => put_publish(out, *id, node, capability, *readonly),
         Call::ControllerUnpublishVolume { id, node } => {
             append_word(out, id.number()).unwrap();
-            append_text(out, node.as_str()).unwrap();
+            append_text(out, node).unwrap();
         }
         Call::NodeStageVolume { id, capability } => {
             append_word(out, id.number()).unwrap();
@@ -114,10 +122,10 @@ fn put_call(out: &mut Vec<u8>, from: &Call)
             target,
             capability,
             readonly,
-        } => put_publish(out, *id, target.as_str(), capability, *readonly),
+        } => put_publish(out, *id, target, capability, *readonly),
         Call::NodeUnpublishVolume { id, target } => {
             append_word(out, id.number()).unwrap();
-            append_text(out, target.as_str()).unwrap();
+            append_text(out, target).unwrap();
         }
     }
 }
@@ -174,7 +182,7 @@ fn put_head(out: &mut Vec<u8>, size: u32, version: Version, kind: u8, number: Nu
         Party::Controller => append_byte(out, 0).unwrap(),
         Party::Node(id) => {
             append_byte(out, 1).unwrap();
-            append_text(out, id.as_str()).unwrap();
+            append_text(out, id).unwrap();
         }
     }
 }

@@ -29,6 +29,5 @@ pub use frame_ref::FrameRef;
 pub use splitter::Splitter;
 pub use version::Version;
 pub use writing::{
-    append_byte, append_capability, append_flag, append_name, append_node_id, append_reply,
-    append_target, append_word,
+    append_byte, append_capability, append_flag, append_reply, append_text, append_word,
 };

@@ -2,14 +2,14 @@
 ghost use Rattle.std.specs.Prelude.{◌≡◌, ◌≤◌, ◌++◌, [], ◌∷◌, length};
 ghost use Rattle.std.specs.List.{flat_map, AllByRecursion};
 ghost use Rattle.csi_types.specs.Public.Limits.{IsCapability, IsReply};
-ghost use Rattle.csi_types.specs.Public.Text.{IsName, IsNodeId, IsTarget};
+ghost use Rattle.csi_types.specs.Public.Text.{IsText};
 ghost use Rattle.csi_types.specs.Public.Status.{status_code};
 ghost use Rattle.csi_frames.specs.Private.Puts.{Puts, HasRoom};
 ghost use Rattle.csi_frames.specs.Public.Appends.{Appends};
 ghost use Rattle.csi_frames.specs.Public.Spelling.{word, text, flag, capability, reply_id, reply_fields};
 
 use byteorder::{BigEndian, ByteOrder};
-use csi_types::{Access, Capability, Name, NoMemory, NodeId, Reply, Target};
+use csi_types::{Access, Capability, LimitedText, NoMemory, Reply};
 
 /// Bytes behind what a vector has, which must have room for them.
 pub(crate) fn put(out: &mut Vec<u8>, bytes: &[u8])
@@ -49,36 +49,19 @@ pub fn append_flag(out: &mut Vec<u8>, readonly: bool) -> Result<(), NoMemory>
     append_byte(out, if readonly { 1 } else { 0 })
 }
 
-/// Appends a text of at most 255 bytes, as `append_byte` does a byte.
-pub(crate) fn append_text(out: &mut Vec<u8>, from: &str) -> Result<(), NoMemory>
-    requires { length from.now ≤ 255 }
-    ensures { Appends out.old out.new (text from.now) (Unit {0}) result }
+/// Appends a volume's name, a node's id or a target, as `append_byte` does a byte. This profile's own.
+pub fn append_text<Of, const MOST: usize>(
+    out: &mut Vec<u8>,
+    from: &LimitedText<Of, MOST>,
+) -> Result<(), NoMemory>
+    requires { MOST ≤ 255 }
+    ensures { Appends out.old out.new (text from.now) (IsText 1 MOST from.now) result }
 {
+    let from = from.as_str();
     out.reserve(1 + from.len())?;
     put(out, &[from.len() as u8]);
     put(out, from.as_bytes());
     Ok(())
-}
-
-/// Appends a volume's name, as `append_byte` does a byte. This profile's own.
-pub fn append_name(out: &mut Vec<u8>, name: &Name) -> Result<(), NoMemory>
-    ensures { Appends out.old out.new (text name.now) (IsName name.now) result }
-{
-    append_text(out, name.as_str())
-}
-
-/// Appends a node's id, as `append_byte` does a byte. This profile's own.
-pub fn append_node_id(out: &mut Vec<u8>, id: &NodeId) -> Result<(), NoMemory>
-    ensures { Appends out.old out.new (text id.now) (IsNodeId id.now) result }
-{
-    append_text(out, id.as_str())
-}
-
-/// Appends a target, as `append_byte` does a byte. This profile's own.
-pub fn append_target(out: &mut Vec<u8>, target: &Target) -> Result<(), NoMemory>
-    ensures { Appends out.old out.new (text target.now) (IsTarget target.now) result }
-{
-    append_text(out, target.as_str())
 }
 
 /// Appends a capability, as `append_byte` does a byte. This profile's own.

@@ -48,5 +48,5 @@ pub use rows::MAX_ROWS;
 pub use sharing::{allows_one_target, single_node, single_writer, two_writers, writes};
 pub use spelled::SpelledCapabilities;
 pub use status::Status;
-pub use text::{Detail, FsType, Name, NodeId, Target, TextFault};
+pub use text::{Detail, FsType, LimitedText, Name, NodeId, Target, TextFault};
 pub use volume_id::{VolumeId, VolumeIdRef};

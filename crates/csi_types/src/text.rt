@@ -8,7 +8,7 @@ mod limited;
 
 pub use detail::Detail;
 pub use fs_type::FsType;
-pub use limited::{Name, NodeId, Target};
+pub use limited::{LimitedText, Name, NodeId, Target};
 use thiserror::Error;
 
 /// Why a text could not be made: the first of these that holds, by its number (this profile's own).

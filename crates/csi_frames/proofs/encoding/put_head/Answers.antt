@@ -1,6 +1,7 @@
 use Rattle.std.proofs.Common.{◌≡◌, ◌+◌, ◌++◌, ◌≤◌, [], ◌∷◌, ℕ, List, length, vec_len, vec_capacity, ap, subst, rules, arith}
 use Rattle.std.specs.Global.{Vec}
 use Rattle.csi_types.specs.Public.Limits.{IsNumber, IsParty}
+use Rattle.csi_types.specs.Public.Text.{IsText}
 use Rattle.csi_frames.specs.Private.Puts.{Puts}
 use Rattle.csi_frames.specs.Private.Spelling.{head}
 use Rattle.csi_frames.specs.Public.Spelling.{party, text}
@@ -25,10 +26,8 @@ returns-in-Node c =
     let room : vec_len c.args.out.now + (22 + length (party c.args.from.now)) ≤ vec_capacity c.args.out.now = c.requires in
     let whole : vec_len c.args.out.now + (24 + length id) ≤ vec_capacity c.args.out.now = omega (arith, rw c.in-Node.is at room) in
     let byte = put-in-room c.put.new.out c.append_byte-in-Node.new.out (1 ∷ []) (Unit {0}) c.append_byte-in-Node.result (omega (arith, whole, front.len, front.capacity)) c.append_byte-in-Node.ensures in
-    let named : Puts c.append_byte-in-Node.new.out c.append_text.new.out (text id) (Unit {0}) =
-    subst (λ (t : List ℕ). Puts c.append_byte-in-Node.new.out c.append_text.new.out (text t) (Unit {0})) c.as_str.ensures.value
-    (put-in-room c.append_byte-in-Node.new.out c.append_text.new.out (text c.as_str.result.now) (Unit {0}) c.append_text.result
-    (omega (arith, whole, front.len, front.capacity, byte.len, byte.capacity, ap length c.as_str.ensures.value)) c.append_text.ensures) in
+    let named = put-in-room c.append_byte-in-Node.new.out c.append_text.new.out (text id) (IsText 1 255 id) c.append_text.result
+        (omega (arith, whole, front.len, front.capacity, byte.len, byte.capacity)) c.append_text.ensures in
     rw c.in-Node.is
     (Puts-then c.args.out.now c.put.new.out c.append_text.new.out (head c.args.size c.args.version c.args.kind c.args.number) (1 ∷ text id) (Unit {0}) (Unit {0}) _ (search rules, search rules) front
-    (Puts-then c.put.new.out c.append_byte-in-Node.new.out c.append_text.new.out (1 ∷ []) (text id) (Unit {0}) (Unit {0}) (Unit {0}) tt byte named))
+    (Puts-then c.put.new.out c.append_byte-in-Node.new.out c.append_text.new.out (1 ∷ []) (text id) (Unit {0}) (IsText 1 255 id) (Unit {0}) tt byte named))
