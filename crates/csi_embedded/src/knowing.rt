@@ -8,7 +8,7 @@ ghost use Rattle.csi_embedded.specs.Public.Knowing.{TellsThing, TellsGoal, Tells
 use crate::copying::copy;
 use crate::embedded::Embedded;
 use crate::ending::CallEnding;
-use csi_frames::{append_byte, append_capability, append_flag, append_node_id, append_target};
+use csi_frames::{append_byte, append_capability, append_flag, append_text};
 use csi_orchestrator::{Goal, Known, Orchestrator, Thing};
 use csi_types::{Name, NoMemory};
 use std::alloc::Global;
@@ -89,15 +89,15 @@ fn bytes_of(alloc: Global, goal: &Option<Goal>) -> Result<Vec<u8>, NoMemory>
         Some(Goal::Create) => append_byte(&mut out, 1)?,
         Some(Goal::Use(usage)) => {
             append_byte(&mut out, 2)?;
-            append_node_id(&mut out, &usage.node)?;
-            append_target(&mut out, &usage.target)?;
+            append_text(&mut out, &usage.node)?;
+            append_text(&mut out, &usage.target)?;
             append_capability(&mut out, &usage.capability)?;
             append_flag(&mut out, usage.readonly)?;
         }
         Some(Goal::Stop { node, target }) => {
             append_byte(&mut out, 3)?;
-            append_node_id(&mut out, node)?;
-            append_target(&mut out, target)?;
+            append_text(&mut out, node)?;
+            append_text(&mut out, target)?;
         }
         Some(Goal::Delete) => append_byte(&mut out, 4)?,
     }

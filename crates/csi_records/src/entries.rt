@@ -15,7 +15,7 @@ use crate::items::{Item, list, put_list};
 use crate::known::put_known;
 use crate::orchestrator_fields::known;
 use crate::version::RecordVersion;
-use csi_frames::{FaultKind, Fields, append_byte, append_flag, append_node_id, append_target};
+use csi_frames::{FaultKind, Fields, append_byte, append_flag, append_text};
 use csi_orchestrator::{NodeEntry, TargetEntry};
 use csi_types::{Capability, NoMemory, NodeId, Target};
 use std::alloc::Global;
@@ -43,7 +43,7 @@ impl Item for TargetEntry {
     }
 
     fn put(&self, out: &mut Vec<u8>) -> Result<(), NoMemory> {
-        append_target(out, &self.target)?;
+        append_text(out, &self.target)?;
         put_known(out, self.published)
     }
 }
@@ -99,7 +99,7 @@ fn put_entry(out: &mut Vec<u8>, entry: &NodeEntry) -> Result<(), NoMemory>
     ensures written { OnOk result (out.new.items ≡ out.old.items ++ node_entry_bytes (node_entry_shown entry.now)) }
     ensures fits { OnOk result (IsNodeEntry present (node_entry_shown entry.now)) }
 {
-    append_node_id(out, &entry.node)?;
+    append_text(out, &entry.node)?;
     entry.capability.put(out)?;
     append_flag(out, entry.readonly)?;
     put_known(out, entry.attached)?;

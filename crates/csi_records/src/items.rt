@@ -8,10 +8,7 @@ ghost use Rattle.csi_records.specs.Public.Spelling.{list_spelling, present};
 use crate::fault::ValueStop;
 use crate::version::RecordVersion;
 use csi_controller::NodeHolding;
-use csi_frames::{
-    FaultKind, Fields, append_byte, append_capability, append_flag, append_node_id, append_target,
-    capability_at,
-};
+use csi_frames::{FaultKind, Fields, append_byte, append_capability, append_flag, append_text, capability_at};
 use csi_node::NodeTarget;
 use csi_types::{Capability, NoMemory, NodeId, Target};
 use std::alloc::Global;
@@ -94,7 +91,7 @@ impl Item for NodeHolding {
     }
 
     fn put(&self, out: &mut Vec<u8>) -> Result<(), NoMemory> {
-        append_node_id(out, &self.node)?;
+        append_text(out, &self.node)?;
         self.capability.put(out)?;
         append_flag(out, self.readonly)
     }
@@ -123,7 +120,7 @@ impl Item for NodeTarget {
     }
 
     fn put(&self, out: &mut Vec<u8>) -> Result<(), NoMemory> {
-        append_target(out, &self.target)?;
+        append_text(out, &self.target)?;
         append_flag(out, self.readonly)
     }
 }

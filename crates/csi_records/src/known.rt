@@ -8,7 +8,7 @@ ghost use Rattle.csi_records.specs.Public.OrchestratorSpelling.{known_bytes, arg
 ghost use Rattle.csi_records.specs.Public.OrchestratorRows.{AreArguments, IsUsage, IsGoal};
 
 use crate::items::{Item, put_list};
-use csi_frames::{append_byte, append_flag, append_node_id, append_target, append_word};
+use csi_frames::{append_byte, append_flag, append_text, append_word};
 use csi_orchestrator::{Arguments, Goal, Known, Usage};
 use csi_types::{NoMemory, NodeId, Target, VolumeId};
 
@@ -54,8 +54,8 @@ fn put_usage(out: &mut Vec<u8>, usage: &Usage) -> Result<(), NoMemory>
     ensures written { OnOk result (out.new.items ≡ out.old.items ++ usage_bytes usage.now) }
     ensures fits { OnOk result (IsUsage present usage.now) }
 {
-    append_node_id(out, &usage.node)?;
-    append_target(out, &usage.target)?;
+    append_text(out, &usage.node)?;
+    append_text(out, &usage.target)?;
     usage.capability.put(out)?;
     append_flag(out, usage.readonly)
 }
@@ -65,8 +65,8 @@ fn put_place(out: &mut Vec<u8>, node: &NodeId, target: &Target) -> Result<(), No
     ensures written { OnOk result (out.new.items ≡ out.old.items ++ (text node.now ++ text target.now)) }
     ensures fits { OnOk result (IsNodeId node.now × IsTarget target.now) }
 {
-    append_node_id(out, node)?;
-    append_target(out, target)
+    append_text(out, node)?;
+    append_text(out, target)
 }
 
 /// A goal, if there is one.

@@ -12,7 +12,7 @@ use crate::fields::tag;
 use crate::items::{Item, list};
 use crate::part_value::value_of;
 use crate::version::RecordVersion;
-use csi_frames::{Fields, append_node_id};
+use csi_frames::{Fields, append_text};
 use csi_stores::Part;
 use csi_types::{NoMemory, NodeId};
 use std::alloc::Global;
@@ -39,7 +39,7 @@ impl Item for NodeId {
     }
 
     fn put(&self, out: &mut Vec<u8>) -> Result<(), NoMemory> {
-        append_node_id(out, self)
+        append_text(out, self)
     }
 }
 

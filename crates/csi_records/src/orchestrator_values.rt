@@ -12,8 +12,7 @@ use crate::entries::put_entries;
 use crate::items::put_list;
 use crate::known::{put_arguments, put_goal, put_id, put_known};
 use crate::version::PRESENT;
-use crate::writing::put;
-use csi_frames::{append_byte, append_name, append_word};
+use csi_frames::{append_byte, append_text, append_word};
 use csi_orchestrator::Row;
 use csi_types::{NoMemory, NodeId};
 use std::alloc::Global;
@@ -30,7 +29,7 @@ pub fn orchestrator_head_value(
     ensures fits { IfOk result (λ value. AllByRecursion IsNodeId nodes.now) }
 {
     let mut out = Vec::new(alloc);
-    put(&mut out, &[PRESENT.number(), 2])?;
+    out.extend_from_slice(&[PRESENT.number(), 2])?;
     append_word(&mut out, session)?;
     put_list(&mut out, nodes)?;
     Ok(out)
@@ -45,7 +44,7 @@ pub fn orchestrator_row_value(alloc: Global, row: &Row) -> Result<Vec<u8>, NoMem
 {
     let mut out = Vec::new(alloc);
     append_byte(&mut out, PRESENT.number())?;
-    append_name(&mut out, &row.name)?;
+    append_text(&mut out, &row.name)?;
     put_arguments(&mut out, &row.arguments)?;
     put_id(&mut out, row.id)?;
     put_known(&mut out, row.exists)?;

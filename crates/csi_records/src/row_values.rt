@@ -8,9 +8,9 @@ ghost use Rattle.csi_records.specs.Public.Records.{IsVolumeRow, IsStagedSo, IsAn
 
 use crate::items::{Item, put_list};
 use crate::version::PRESENT;
-use crate::writing::{put, put_kept};
+use crate::writing::put_kept;
 use csi_controller::ControllerRow;
-use csi_frames::{append_byte, append_name, append_node_id, append_word};
+use csi_frames::{append_byte, append_text, append_word};
 use csi_node::NodeRow;
 use csi_types::{Capability, NoMemory, NodeId};
 use std::alloc::Global;
@@ -37,8 +37,8 @@ pub fn volume_value(alloc: Global, row: &ControllerRow) -> Result<Vec<u8>, NoMem
 {
     let _id = row.id.number();
     let mut out = Vec::new(alloc);
-    put(&mut out, &[PRESENT.number(), if row.live { 1 } else { 2 }])?;
-    append_name(&mut out, &row.name)?;
+    out.extend_from_slice(&[PRESENT.number(), if row.live { 1 } else { 2 }])?;
+    append_text(&mut out, &row.name)?;
     append_word(&mut out, row.capacity)?;
     put_list(&mut out, row.capabilities.as_slice())?;
     put_list(&mut out, &row.holdings)?;
@@ -68,7 +68,7 @@ pub fn controller_head_value(alloc: Global, next_id: u64, session: u64) -> Resul
     ensures { IfOk result (λ value. value.items ≡ (controller_head present next_id (Some session)).value) }
 {
     let mut out = Vec::new(alloc);
-    put(&mut out, &[PRESENT.number(), 0])?;
+    out.extend_from_slice(&[PRESENT.number(), 0])?;
     append_word(&mut out, next_id)?;
     append_word(&mut out, session)?;
     Ok(out)
@@ -81,8 +81,8 @@ pub fn node_head_value(alloc: Global, node: &NodeId, session: u64) -> Result<Vec
     ensures fits { IfOk result (λ value. IsNodeId node.now) }
 {
     let mut out = Vec::new(alloc);
-    put(&mut out, &[PRESENT.number(), 1])?;
-    append_node_id(&mut out, node)?;
+    out.extend_from_slice(&[PRESENT.number(), 1])?;
+    append_text(&mut out, node)?;
     append_word(&mut out, session)?;
     Ok(out)
 }

@@ -14,8 +14,8 @@ use csi_stores::Part;
 use csi_types::{Kind, NoMemory, Number, Reply};
 use std::alloc::Global;
 
-/// Bytes as they are.
-pub(crate) fn put(out: &mut Vec<u8>, bytes: &[u8]) -> Result<(), NoMemory>
+// Bytes as they are.
+fn put(out: &mut Vec<u8>, bytes: &[u8]) -> Result<(), NoMemory>
     ensures { OnOk result (out.new.items ≡ out.old.items ++ bytes.now) }
 {
     out.extend_from_slice(bytes)?;
