@@ -9,7 +9,7 @@ ghost use Rattle.csi_json.specs.Public.Faults.{IsScheduleFault};
 
 use crate::fault::ScheduleFault;
 use crate::lists::read_nodes;
-use crate::texts::node_id;
+use crate::texts::limited;
 use crate::values::{Flaw, list, member, number_at, sized_object};
 use csi_types::{Config, NodeSlots};
 use serde_json::Value;
@@ -21,7 +21,7 @@ pub fn node(alloc: Global, value: &Value) -> Result<NodeSlots, Flaw>
     ensures { Reads (λ node. node) result (node_slots_of (view value.now)) }
 {
     let object = sized_object(value, 2)?;
-    let id = node_id(alloc, member(object, "id")?)?;
+    let id = limited(alloc, member(object, "id")?)?;
     let slots = number_at(object, "slots")?;
     Ok(NodeSlots { id, slots })
 }

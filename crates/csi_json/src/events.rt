@@ -9,7 +9,7 @@ ghost use Rattle.csi_json.specs.Public.Events.{restart_controller_of, restart_or
 use crate::access::{capabilities_at, capability};
 use crate::configs::config;
 use crate::lists::read_ids;
-use crate::texts::{name, node_id, target_at};
+use crate::texts::limited;
 use crate::values::{
     Flaw, flag_at, list, member, number, number_at, only_member, sized_object, text,
 };
@@ -22,7 +22,7 @@ fn create_event(alloc: Global, value: &Value) -> Result<Event, Flaw>
     ensures { Reads (λ event. event) result (create_of (view value.now)) }
 {
     let object = sized_object(value, 4)?;
-    let name = name(alloc, member(object, "name")?)?;
+    let name = limited(alloc, member(object, "name")?)?;
     let required = number_at(object, "required")?;
     let limit = number_at(object, "limit")?;
     let capabilities = capabilities_at(alloc, object, "capabilities")?;
@@ -39,9 +39,9 @@ fn use_event(alloc: Global, value: &Value) -> Result<Event, Flaw>
     ensures { Reads (λ event. event) result (use_of (view value.now)) }
 {
     let object = sized_object(value, 5)?;
-    let name = name(alloc, member(object, "name")?)?;
-    let node = node_id(alloc, member(object, "node")?)?;
-    let target = target_at(alloc, object, "target")?;
+    let name = limited(alloc, member(object, "name")?)?;
+    let node = limited(alloc, member(object, "node")?)?;
+    let target = limited(alloc, member(object, "target")?)?;
     let capability = capability(alloc, member(object, "capability")?)?;
     let readonly = flag_at(object, "readonly")?;
     Ok(Event::Use {
@@ -58,9 +58,9 @@ fn stop_event(alloc: Global, value: &Value) -> Result<Event, Flaw>
     ensures { Reads (λ event. event) result (stop_of (view value.now)) }
 {
     let object = sized_object(value, 3)?;
-    let name = name(alloc, member(object, "name")?)?;
-    let node = node_id(alloc, member(object, "node")?)?;
-    let target = target_at(alloc, object, "target")?;
+    let name = limited(alloc, member(object, "name")?)?;
+    let node = limited(alloc, member(object, "node")?)?;
+    let target = limited(alloc, member(object, "target")?)?;
     Ok(Event::Stop { name, node, target })
 }
 
@@ -68,7 +68,7 @@ fn stop_event(alloc: Global, value: &Value) -> Result<Event, Flaw>
 fn delete_event(alloc: Global, value: &Value) -> Result<Event, Flaw>
     ensures { Reads (λ event. event) result (delete_of (view value.now)) }
 {
-    let name = name(alloc, value)?;
+    let name = limited(alloc, value)?;
     Ok(Event::Delete(name))
 }
 
@@ -76,7 +76,7 @@ fn delete_event(alloc: Global, value: &Value) -> Result<Event, Flaw>
 fn timeout_event(alloc: Global, value: &Value) -> Result<Event, Flaw>
     ensures { Reads (λ event. event) result (timeout_of (view value.now)) }
 {
-    let name = name(alloc, value)?;
+    let name = limited(alloc, value)?;
     Ok(Event::Timeout(name))
 }
 
@@ -103,7 +103,7 @@ fn restart_event(value: &Value) -> Result<Event, Flaw>
 fn restart_node_event(alloc: Global, value: &Value) -> Result<Event, Flaw>
     ensures { Reads (λ event. event) result (restart_node_of (view value.now)) }
 {
-    let id = node_id(alloc, value)?;
+    let id = limited(alloc, value)?;
     Ok(Event::RestartNode(id))
 }
 
@@ -136,7 +136,7 @@ fn restart_orchestrator_event(alloc: Global, value: &Value) -> Result<Event, Fla
 fn join_event(alloc: Global, value: &Value) -> Result<Event, Flaw>
     ensures { Reads (λ event. event) result (join_of (view value.now)) }
 {
-    let id = node_id(alloc, value)?;
+    let id = limited(alloc, value)?;
     Ok(Event::Join(id))
 }
 
@@ -144,7 +144,7 @@ fn join_event(alloc: Global, value: &Value) -> Result<Event, Flaw>
 fn lose_event(alloc: Global, value: &Value) -> Result<Event, Flaw>
     ensures { Reads (λ event. event) result (lose_of (view value.now)) }
 {
-    let id = node_id(alloc, value)?;
+    let id = limited(alloc, value)?;
     Ok(Event::Lose(id))
 }
 
@@ -152,7 +152,7 @@ fn lose_event(alloc: Global, value: &Value) -> Result<Event, Flaw>
 fn settle_event(alloc: Global, value: &Value) -> Result<Event, Flaw>
     ensures { Reads (λ event. event) result (settle_of (view value.now)) }
 {
-    let name = name(alloc, value)?;
+    let name = limited(alloc, value)?;
     Ok(Event::Settle(name))
 }
 

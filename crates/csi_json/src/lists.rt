@@ -13,7 +13,7 @@ use crate::access::capability;
 use crate::configs::node;
 use crate::fault::ScheduleFault;
 use crate::happening::{Happening, what_happens};
-use crate::texts::node_id;
+use crate::texts::limited;
 use crate::values::Flaw;
 use csi_types::{Capability, NodeId, NodeSlots};
 use serde_json::Value;
@@ -64,7 +64,7 @@ pub fn read_nodes(alloc: Global, items: &[Value]) -> Result<Vec<NodeSlots>, Flaw
 fn push_id(alloc: Global, value: &Value, list: &mut Vec<NodeId>) -> Result<(), Flaw>
     ensures { Reads (λ _. list.new.items) result (option_map (λ read. list.old.items ++ read ∷ []) (node_id_of (view value.now))) }
 {
-    let id = node_id(alloc, value)?;
+    let id = limited(alloc, value)?;
     list.push(id)?;
     Ok(())
 }

@@ -1,7 +1,7 @@
 //! Commands of the usual form, which are read without a value for each: objects that have the keys of their kind, each once and in
 //! order. A command of another form is left to the reader that judges it.
 ghost use Rattle.std.specs.Prelude.{◌≡◌, Some, IfOk, IfSome};
-ghost use Rattle.csi_json.specs.Public.Json.{name_of, node_id_of, target_of};
+ghost use Rattle.csi_json.specs.Public.Json.{text_of};
 ghost use Rattle.csi_json.specs.Public.Capabilities.{capability_of};
 ghost use Rattle.csi_json.specs.Public.Events.{use_of, stop_of};
 ghost use Rattle.csi_json.specs.Private.Plain.{event_in, seen_as};
@@ -9,44 +9,22 @@ ghost use Rattle.csi_json.specs.Private.Plain.{event_in, seen_as};
 use crate::access::capability;
 use crate::borrowed::{owned, plain_number};
 use crate::values::Flaw;
-use csi_types::{Access, Capability, Event, Mode, Name, NodeId, Target, TextFault};
+use csi_types::{Access, Capability, Event, LimitedText, Mode, TextFault};
 use json::Value;
 use std::alloc::Global;
 
-fn name_in(alloc: Global, value: &Value<'_>) -> Result<Name, Flaw>
-    ensures { IfOk result (λ name. seen_as name_of value.now ≡ Some name) }
+// A volume's name, a node's id or a target.
+fn text_in<Of, const MOST: usize>(
+    alloc: Global,
+    value: &Value<'_>,
+) -> Result<LimitedText<Of, MOST>, Flaw>
+    ensures { IfOk result (λ text. seen_as (text_of 1 MOST) value.now ≡ Some text) }
 {
     let Value::String(text) = value else {
         return Err(Flaw::Bad);
     };
-    match Name::try_new(alloc, text) {
-        Ok(name) => Ok(name),
-        Err(TextFault::NoMemory) => Err(Flaw::NoMemory),
-        Err(TextFault::Empty | TextFault::TooLong) => Err(Flaw::Bad),
-    }
-}
-
-fn node_in(alloc: Global, value: &Value<'_>) -> Result<NodeId, Flaw>
-    ensures { IfOk result (λ node. seen_as node_id_of value.now ≡ Some node) }
-{
-    let Value::String(text) = value else {
-        return Err(Flaw::Bad);
-    };
-    match NodeId::try_new(alloc, text) {
-        Ok(id) => Ok(id),
-        Err(TextFault::NoMemory) => Err(Flaw::NoMemory),
-        Err(TextFault::Empty | TextFault::TooLong) => Err(Flaw::Bad),
-    }
-}
-
-fn target_in(alloc: Global, value: &Value<'_>) -> Result<Target, Flaw>
-    ensures { IfOk result (λ target. seen_as target_of value.now ≡ Some target) }
-{
-    let Value::String(text) = value else {
-        return Err(Flaw::Bad);
-    };
-    match Target::try_new(alloc, text) {
-        Ok(target) => Ok(target),
+    match LimitedText::try_new(alloc, text) {
+        Ok(text) => Ok(text),
         Err(TextFault::NoMemory) => Err(Flaw::NoMemory),
         Err(TextFault::Empty | TextFault::TooLong) => Err(Flaw::Bad),
     }
@@ -112,9 +90,9 @@ fn usual_stop(alloc: Global, value: &Value<'_>) -> Result<Event, Flaw>
     if first.0 != "name" || second.0 != "node" || third.0 != "target" {
         return Err(Flaw::Bad);
     }
-    let name = name_in(alloc, &first.1)?;
-    let node = node_in(alloc, &second.1)?;
-    let target = target_in(alloc, &third.1)?;
+    let name = text_in(alloc, &first.1)?;
+    let node = text_in(alloc, &second.1)?;
+    let target = text_in(alloc, &third.1)?;
     Ok(Event::Stop { name, node, target })
 }
 
@@ -142,9 +120,9 @@ fn usual_use(alloc: Global, value: &Value<'_>) -> Result<Event, Flaw>
         return Err(Flaw::Bad);
     };
     let capability = capability_in(alloc, &first.1)?;
-    let name = name_in(alloc, &second.1)?;
-    let node = node_in(alloc, &third.1)?;
-    let target = target_in(alloc, &fifth.1)?;
+    let name = text_in(alloc, &second.1)?;
+    let node = text_in(alloc, &third.1)?;
+    let target = text_in(alloc, &fifth.1)?;
     Ok(Event::Use {
         name,
         node,

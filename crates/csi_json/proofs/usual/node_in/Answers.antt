@@ -1,7 +1,0 @@
--- The text is read where it stands.
-use Rattle.csi_json.proofs.PlainTexts.{text_read}
-use Rattle.csi_json.proofs.usual.node_in.Goals as goal
-
-pub returns-in-Ok : goal.returns-in-Ok
-returns-in-Ok c =
-    text_read 255 c.args.value.now c.in-String.text c.in-Ok.id c.try_new.result c.in-String.is c.in-Ok.is c.in-Ok.ensures.ok c.try_new.ensures.empty c.try_new.ensures.too_long
