@@ -8,7 +8,9 @@ ghost use Rattle.csi_records.specs.Public.Spelling.{list_spelling, present};
 use crate::fault::ValueStop;
 use crate::version::RecordVersion;
 use csi_controller::NodeHolding;
-use csi_frames::{FaultKind, Fields, append_byte, append_capability, append_flag, append_text, capability_at};
+use csi_frames::{
+    FaultKind, Fields, append_byte, append_capability, append_flag, append_text, capability_at,
+};
 use csi_node::NodeTarget;
 use csi_types::{Capability, NoMemory, NodeId, Target};
 use std::alloc::Global;
