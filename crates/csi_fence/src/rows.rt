@@ -6,9 +6,9 @@ ghost use Rattle.csi_types.specs.Public.Call.{is_party_of};
 ghost use Rattle.csi_types.specs.Public.Lent.{lent_call};
 ghost use Rattle.csi_fence.specs.declared.fence.Verdict.TheVariants.{Fresh};
 ghost use Rattle.csi_fence.specs.Model.Fence.{verdict_of};
-ghost use Rattle.csi_fence.specs.Private.Rows.{IsCarriedAt, IsRecounted};
+ghost use Rattle.csi_fence.specs.Private.Rows.{HaveForgotten, IsCarriedOutAt, IsRecounted, MayForget};
 ghost use Rattle.csi_fence.specs.Public.Raised.{raised_rows};
-ghost use Rattle.csi_fence.specs.Public.Rows.{AreKept, AreRising, Answers, put_row, rows_shown, staying, stays_in};
+ghost use Rattle.csi_fence.specs.Public.Rows.{AreKept, AreRising, HaveAnswered, IsAsked, put_row, rows_shown, staying};
 
 use crate::answer::Answer;
 use crate::fault::CoreFault;
@@ -81,22 +81,14 @@ impl<T: Table> Rows<T> {
         }
     }
 
-    // So many empty rows are forgotten, where this session has begun. It takes no memory.
+    // So many empty rows are forgotten, where the session has begun. It takes no memory.
     #[inline(never)]
-    fn forget(&mut self, session: u64, forgettable: usize)
-        requires rising { AreRising T.plan.id (map T.shown self.old.rows.items) }
-        requires agrees { T.agrees self.old.table (map T.shown self.old.rows.items) }
-        requires forgettable { forgettable ≡ count_by (λ row. not (stays_in T.plan session row)) (map T.shown self.old.rows.items) }
-        requires empty { self.old.empty ≡ count_by T.plan.is_empty (map T.shown self.old.rows.items) }
-        ensures session { self.new.session ≡ self.old.session }
-        ensures rows { map T.shown self.new.rows.items ≡ filter (stays_in T.plan session) (map T.shown self.old.rows.items) }
-        ensures room { length self.old.rows.items < vec_capacity self.old.rows → length self.new.rows.items < vec_capacity self.new.rows }
-        ensures empty { self.new.empty ≡ count_by T.plan.is_empty (map T.shown self.new.rows.items) }
-        ensures fixed { T.fixed self.new.table ≡ T.fixed self.old.table }
-        ensures own { T.own self.new.table ≡ T.own self.old.table }
-        ensures agrees { T.agrees self.new.table (map T.shown self.new.rows.items) }
-        ensures has_room { (room : T.Room) (row : T.Shown) → T.has_room self.old.table room row → T.has_room self.new.table room row }
+    fn forget(&mut self, forgettable: usize)
+        requires { MayForget T.plan (T.agrees self.old.table) (map T.shown self.old.rows.items) self.old.session forgettable self.old.empty }
+        ensures { HaveForgotten T.plan T.fixed T.own T.shown T.agrees T.has_room self.old.session self.new.session self.old.table self.new.table self.old.rows
+            self.new.rows self.new.empty }
     {
+        let session = self.session;
         self.table.leave(self.rows.as_slice(), session);
         self.rows
             .retain(|row| !T::is_empty(row) || T::last(row).session == session);
@@ -106,24 +98,15 @@ impl<T: Table> Rows<T> {
     // The session begins, or goes on, and so many empty rows are forgotten. It takes no memory.
     #[inline(always)]
     fn begin(&mut self, session: u64, forgettable: usize)
-        requires rising { AreRising T.plan.id (map T.shown self.old.rows.items) }
-        requires agrees { T.agrees self.old.table (map T.shown self.old.rows.items) }
-        requires forgettable { forgettable ≡ count_by (λ row. not (stays_in T.plan session row)) (map T.shown self.old.rows.items) }
-        requires empty { self.old.empty ≡ count_by T.plan.is_empty (map T.shown self.old.rows.items) }
-        ensures session { self.new.session ≡ session }
-        ensures rows { map T.shown self.new.rows.items ≡ filter (stays_in T.plan session) (map T.shown self.old.rows.items) }
-        ensures room { length self.old.rows.items < vec_capacity self.old.rows → length self.new.rows.items < vec_capacity self.new.rows }
-        ensures empty { self.new.empty ≡ count_by T.plan.is_empty (map T.shown self.new.rows.items) }
-        ensures fixed { T.fixed self.new.table ≡ T.fixed self.old.table }
-        ensures own { T.own self.new.table ≡ T.own self.old.table }
-        ensures agrees { T.agrees self.new.table (map T.shown self.new.rows.items) }
-        ensures has_room { (room : T.Room) (row : T.Shown) → T.has_room self.old.table room row → T.has_room self.new.table room row }
+        requires { MayForget T.plan (T.agrees self.old.table) (map T.shown self.old.rows.items) session forgettable self.old.empty }
+        ensures { HaveForgotten T.plan T.fixed T.own T.shown T.agrees T.has_room session self.new.session self.old.table self.new.table self.old.rows
+            self.new.rows self.new.empty }
     {
         self.session = session;
         if forgettable == 0 {
             return;
         }
-        self.forget(session, forgettable);
+        self.forget(forgettable);
     }
 
     // Puts in a row of a new id, for which there is room, and says where. It takes no memory.
@@ -165,20 +148,13 @@ impl<T: Table> Rows<T> {
         number: Number,
         call: &CallRef<'_>,
     ) -> Result<Reply, CoreFault>
-        requires party { IsTrue (is_party_of (kind_of (lent_call call.now)) (T.plan.party (T.fixed self.old.table))) }
-        requires kept { AreKept T.plan T.is_sound (T.agrees self.old.table) (rows_shown T.own T.shown self.old.table self.old.session self.old.rows.items) self.old.empty }
+        requires asked { IsAsked T.plan T.is_sound (T.fixed self.old.table) (lent_call call.now) (rows_shown T.own T.shown self.old.table self.old.session self.old.rows.items)
+            (T.agrees self.old.table) self.old.empty }
         requires place { place < length self.old.rows.items }
         requires is_own { (row : T.Shown) → slice_get (map T.shown self.old.rows.items) place ≡ Some row → T.plan.is_for (lent_call call.now) row ≡ true }
-        ensures session { self.new.session ≡ self.old.session }
-        ensures fixed { T.fixed self.new.table ≡ T.fixed self.old.table }
-        ensures own { T.own self.new.table ≡ T.own self.old.table }
-        ensures ok { (row : T.Shown) → slice_get (map T.shown self.old.rows.items) place ≡ Some row → IfOk result (IsCarriedAt T.plan (T.is_sound (T.own self.old.table)) number (lent_call call.now)
-            (T.plan.line (T.fixed self.old.table) (map T.shown self.old.rows.items) row (lent_call call.now)) row place (map T.shown self.old.rows.items) (map T.shown self.new.rows.items)) }
-        ensures empty { self.new.empty ≡ count_by T.plan.is_empty (map T.shown self.new.rows.items) }
-        ensures agrees { T.agrees self.new.table (map T.shown self.new.rows.items) }
-        ensures err { OnErr result (map T.shown self.new.rows.items ≡ map T.shown self.old.rows.items) }
-        ensures frugal { (row : T.Shown) → slice_get (map T.shown self.old.rows.items) place ≡ Some row → T.is_frugal (lent_call call.now) →
-            (T.plan.line (T.fixed self.old.table) (map T.shown self.old.rows.items) row (lent_call call.now)).reply.status ≡ OkStatus → IsOk result }
+        ensures { IsCarriedOutAt T.plan T.is_sound T.is_frugal (T.fixed self.old.table) (T.fixed self.new.table) number (lent_call call.now) place
+            (rows_shown T.own T.shown self.old.table self.old.session self.old.rows.items)
+            (rows_shown T.own T.shown self.new.table self.new.session self.new.rows.items) (T.agrees self.new.table) self.new.empty result }
     {
         let row = &mut self.rows[place];
         let line = self.table.line(row, call);
@@ -211,8 +187,8 @@ impl<T: Table> Rows<T> {
         number: Number,
         call: &CallRef<'_>,
     ) -> Result<Answer, CoreFault>
-        requires party { IsTrue (is_party_of (kind_of (lent_call call.now)) (T.plan.party (T.fixed self.old.table))) }
-        requires kept { AreKept T.plan T.is_sound (T.agrees self.old.table) (rows_shown T.own T.shown self.old.table self.old.session self.old.rows.items) self.old.empty }
+        requires asked { IsAsked T.plan T.is_sound (T.fixed self.old.table) (lent_call call.now) (rows_shown T.own T.shown self.old.table self.old.session self.old.rows.items)
+            (T.agrees self.old.table) self.old.empty }
         requires not_over { self.old.session ≤ number.session }
         requires place { place < length self.old.rows.items }
         requires found { (row : T.Shown) → slice_get (map T.shown self.old.rows.items) place ≡ Some row →
@@ -220,10 +196,9 @@ impl<T: Table> Rows<T> {
         requires fresh { (row : T.Shown) → slice_get (map T.shown self.old.rows.items) place ≡ Some row → verdict_of (Some (T.plan.kept row).number) number ≡ Fresh }
         requires full { (row : T.Shown) → self.old.session < number.session → slice_get (map T.shown self.old.rows.items) place ≡ Some row →
             T.plan.is_empty row ≡ false }
-        ensures answers { Answers T.plan T.is_sound T.is_frugal (T.fixed self.old.table) number (lent_call call.now)
+        ensures { HaveAnswered T.plan T.is_sound T.is_frugal (T.fixed self.old.table) (T.fixed self.new.table) number (lent_call call.now)
             (rows_shown T.own T.shown self.old.table self.old.session self.old.rows.items)
             (rows_shown T.own T.shown self.new.table self.new.session self.new.rows.items) (T.agrees self.new.table) self.new.empty result }
-        ensures fixed { T.fixed self.new.table ≡ T.fixed self.old.table }
     {
         let id = T::id(&self.rows[place]);
         let forgettable = self.forgettable(number);
@@ -253,16 +228,15 @@ impl<T: Table> Rows<T> {
         number: Number,
         call: &CallRef<'_>,
     ) -> Result<Answer, CoreFault>
-        requires party { IsTrue (is_party_of (kind_of (lent_call call.now)) (T.plan.party (T.fixed self.old.table))) }
-        requires kept { AreKept T.plan T.is_sound (T.agrees self.old.table) (rows_shown T.own T.shown self.old.table self.old.session self.old.rows.items) self.old.empty }
+        requires asked { IsAsked T.plan T.is_sound (T.fixed self.old.table) (lent_call call.now) (rows_shown T.own T.shown self.old.table self.old.session self.old.rows.items)
+            (T.agrees self.old.table) self.old.empty }
         requires not_over { self.old.session ≤ number.session }
         requires place { Some place ≡ position (T.plan.is_for (lent_call call.now)) (map T.shown self.old.rows.items) }
         requires full { (row : T.Shown) → self.old.session < number.session → slice_get (map T.shown self.old.rows.items) place ≡ Some row →
             T.plan.is_empty row ≡ false }
-        ensures answers { Answers T.plan T.is_sound T.is_frugal (T.fixed self.old.table) number (lent_call call.now)
+        ensures { HaveAnswered T.plan T.is_sound T.is_frugal (T.fixed self.old.table) (T.fixed self.new.table) number (lent_call call.now)
             (rows_shown T.own T.shown self.old.table self.old.session self.old.rows.items)
             (rows_shown T.own T.shown self.new.table self.new.session self.new.rows.items) (T.agrees self.new.table) self.new.empty result }
-        ensures fixed { T.fixed self.new.table ≡ T.fixed self.old.table }
     {
         let row = &self.rows[place];
         match verdict_of(Some(T::last(row)), number) {
@@ -274,14 +248,13 @@ impl<T: Table> Rows<T> {
 
     // Answers a call that has no row, none that isn't empty where it begins a session. An `Err` changes nothing.
     fn answer_absent(&mut self, number: Number, call: &CallRef<'_>) -> Result<Answer, CoreFault>
-        requires party { IsTrue (is_party_of (kind_of (lent_call call.now)) (T.plan.party (T.fixed self.old.table))) }
-        requires kept { AreKept T.plan T.is_sound (T.agrees self.old.table) (rows_shown T.own T.shown self.old.table self.old.session self.old.rows.items) self.old.empty }
+        requires asked { IsAsked T.plan T.is_sound (T.fixed self.old.table) (lent_call call.now) (rows_shown T.own T.shown self.old.table self.old.session self.old.rows.items)
+            (T.agrees self.old.table) self.old.empty }
         requires not_over { self.old.session ≤ number.session }
         requires none { find (T.plan.is_for (lent_call call.now)) (staying T.plan.is_empty self.old.session number (map T.shown self.old.rows.items)) ≡ None }
-        ensures answers { Answers T.plan T.is_sound T.is_frugal (T.fixed self.old.table) number (lent_call call.now)
+        ensures { HaveAnswered T.plan T.is_sound T.is_frugal (T.fixed self.old.table) (T.fixed self.new.table) number (lent_call call.now)
             (rows_shown T.own T.shown self.old.table self.old.session self.old.rows.items)
             (rows_shown T.own T.shown self.new.table self.new.session self.new.rows.items) (T.agrees self.new.table) self.new.empty result }
-        ensures fixed { T.fixed self.new.table ≡ T.fixed self.old.table }
     {
         let forgettable = self.forgettable(number);
         let count = self.rows.len() - forgettable;
@@ -332,12 +305,11 @@ impl<T: Table> Rows<T> {
     /// Answers a call of the plugin by the fence and the table: one of an earlier session than the greatest that came is stale, and one of a
     /// later session begins it, so that empty rows are forgotten. An `Err`, an allocation that was refused, changes nothing.
     pub fn answer(&mut self, number: Number, call: &CallRef<'_>) -> Result<Answer, CoreFault>
-        requires party { IsTrue (is_party_of (kind_of (lent_call call.now)) (T.plan.party (T.fixed self.old.table))) }
-        requires kept { AreKept T.plan T.is_sound (T.agrees self.old.table) (rows_shown T.own T.shown self.old.table self.old.session self.old.rows.items) self.old.empty }
-        ensures answers { Answers T.plan T.is_sound T.is_frugal (T.fixed self.old.table) number (lent_call call.now)
+        requires { IsAsked T.plan T.is_sound (T.fixed self.old.table) (lent_call call.now) (rows_shown T.own T.shown self.old.table self.old.session self.old.rows.items)
+            (T.agrees self.old.table) self.old.empty }
+        ensures { HaveAnswered T.plan T.is_sound T.is_frugal (T.fixed self.old.table) (T.fixed self.new.table) number (lent_call call.now)
             (rows_shown T.own T.shown self.old.table self.old.session self.old.rows.items)
             (rows_shown T.own T.shown self.new.table self.new.session self.new.rows.items) (T.agrees self.new.table) self.new.empty result }
-        ensures fixed { T.fixed self.new.table ≡ T.fixed self.old.table }
     {
         if number.session < self.session {
             return stale(self.alloc, call.kind());

@@ -1,6 +1,7 @@
 //! What a call gets that the fence doesn't let through.
-ghost use Rattle.std.specs.Prelude.{◌≡◌, [], None, IfOk, IsOk};
+ghost use Rattle.std.specs.Prelude.{◌≡◌, None, IfOk};
 ghost use Rattle.csi_types.specs.Model.Replies.{stale_reply};
+ghost use Rattle.csi_fence.specs.Public.Line.{Gives};
 
 use crate::answer::Answer;
 use crate::fault::CoreFault;
@@ -25,8 +26,8 @@ pub fn stale(alloc: Global, kind: Kind) -> Result<Answer, CoreFault>
 
 /// The reply that a row keeps, again. Without a detail it takes no memory.
 pub fn repeated<T: Table>(alloc: Global, row: &T::Row) -> Result<Answer, CoreFault>
-    ensures ok { IfOk result (λ answer. answer ≡ record { kind = (T.plan.kept (T.shown row.now)).kind; reply = (T.plan.kept (T.shown row.now)).reply; row = None }) }
-    ensures succeeds { (T.plan.kept (T.shown row.now)).reply.detail ≡ [] → IsOk result }
+    ensures { Gives (T.plan.kept (T.shown row.now)).reply.detail
+        (record { kind = (T.plan.kept (T.shown row.now)).kind; reply = (T.plan.kept (T.shown row.now)).reply; row = None }) result }
 {
     match copied(alloc, T::reply(row)) {
         Ok(reply) => Ok(Answer {
