@@ -1,12 +1,7 @@
 //! Rows by id, behind the fence.
-ghost use Rattle.std.specs.Prelude.{◌≡◌, ◌≤◌, ◌<◌, ◌==◌, not, nat_lt, if◌then◌else◌, Some, None, true, false, map, filter, find, count_by, position, length, slice_get, vec_capacity, IfOk, IfSome, IsOk, IsTrue, OnErr};
-ghost use Rattle.csi_types.specs.declared.status.Status.TheVariants.{Ok as OkStatus};
-ghost use Rattle.csi_types.specs.Model.Call.{kind_of};
-ghost use Rattle.csi_types.specs.Public.Call.{is_party_of};
+ghost use Rattle.std.specs.Prelude.{◌≡◌, ◌≤◌, ◌<◌, ◌==◌, Some, None, true, false, map, find, count_by, position, length, slice_get, vec_capacity};
 ghost use Rattle.csi_types.specs.Public.Lent.{lent_call};
-ghost use Rattle.csi_fence.specs.declared.fence.Verdict.TheVariants.{Fresh};
-ghost use Rattle.csi_fence.specs.Model.Fence.{verdict_of};
-ghost use Rattle.csi_fence.specs.Private.Rows.{HaveForgotten, IsCarriedOutAt, IsRecounted, MayForget};
+ghost use Rattle.csi_fence.specs.Private.Rows.{HaveForgotten, IsAskedInTime, IsCarriedOutAt, IsRecounted, MayForget};
 ghost use Rattle.csi_fence.specs.Public.Raised.{raised_rows};
 ghost use Rattle.csi_fence.specs.Public.Rows.{AreKept, AreRising, HaveAnswered, IsAsked, put_row, rows_shown, staying};
 
@@ -130,17 +125,6 @@ impl<T: Table> Rows<T> {
         place
     }
 
-    // How many rows are forgotten by a call of this number.
-    fn forgettable(&self, number: Number) -> usize
-        ensures { result ≡ (if nat_lt self.now.session number.session then self.now.empty else 0) }
-    {
-        if self.session < number.session {
-            self.empty
-        } else {
-            0
-        }
-    }
-
     // Carries out a call at the row at this place, and counts anew how many are empty. An `Err` changes nothing.
     fn carry_out_at(
         &mut self,
@@ -179,58 +163,17 @@ impl<T: Table> Rows<T> {
         Ok(reply)
     }
 
-    // Answers a call that the fence lets through to the row at this place; where it begins a session, the row isn't empty. An `Err` changes
-    // nothing.
-    fn answer_fresh(
-        &mut self,
-        place: usize,
-        number: Number,
-        call: &CallRef<'_>,
-    ) -> Result<Answer, CoreFault>
-        requires asked { IsAsked T.plan T.is_sound (T.fixed self.old.table) (lent_call call.now) (rows_shown T.own T.shown self.old.table self.old.session self.old.rows.items)
-            (T.agrees self.old.table) self.old.empty }
-        requires not_over { self.old.session ≤ number.session }
-        requires place { place < length self.old.rows.items }
-        requires found { (row : T.Shown) → slice_get (map T.shown self.old.rows.items) place ≡ Some row →
-            find (T.plan.is_for (lent_call call.now)) (staying T.plan.is_empty self.old.session number (map T.shown self.old.rows.items)) ≡ Some row }
-        requires fresh { (row : T.Shown) → slice_get (map T.shown self.old.rows.items) place ≡ Some row → verdict_of (Some (T.plan.kept row).number) number ≡ Fresh }
-        requires full { (row : T.Shown) → self.old.session < number.session → slice_get (map T.shown self.old.rows.items) place ≡ Some row →
-            T.plan.is_empty row ≡ false }
-        ensures { HaveAnswered T.plan T.is_sound T.is_frugal (T.fixed self.old.table) (T.fixed self.new.table) number (lent_call call.now)
-            (rows_shown T.own T.shown self.old.table self.old.session self.old.rows.items)
-            (rows_shown T.own T.shown self.new.table self.new.session self.new.rows.items) (T.agrees self.new.table) self.new.empty result }
-    {
-        let id = T::id(&self.rows[place]);
-        let forgettable = self.forgettable(number);
-        match self.carry_out_at(place, number, call) {
-            Ok(reply) => {
-                self.begin(number.session, forgettable);
-                let row = if forgettable == 0 {
-                    Some(place)
-                } else {
-                    place_of::<T>(self.rows.as_slice(), id).ok()
-                };
-                Ok(Answer {
-                    kind: call.kind(),
-                    reply,
-                    row,
-                })
-            }
-            Err(fault) => Err(fault),
-        }
-    }
-
-    // Answers a call of the row at this place, behind the fence; where the call begins a session, the row isn't empty. An `Err` changes
-    // nothing.
+    // Answers a call of the row at this place, by which so many rows are forgotten, behind the fence; where the call begins a session, the
+    // row isn't empty. An `Err` changes nothing.
     fn answer_at_row(
         &mut self,
         place: usize,
         number: Number,
+        forgettable: usize,
         call: &CallRef<'_>,
     ) -> Result<Answer, CoreFault>
-        requires asked { IsAsked T.plan T.is_sound (T.fixed self.old.table) (lent_call call.now) (rows_shown T.own T.shown self.old.table self.old.session self.old.rows.items)
-            (T.agrees self.old.table) self.old.empty }
-        requires not_over { self.old.session ≤ number.session }
+        requires in_time { IsAskedInTime T.plan T.is_sound (T.fixed self.old.table) number (lent_call call.now)
+            (rows_shown T.own T.shown self.old.table self.old.session self.old.rows.items) (T.agrees self.old.table) self.old.empty forgettable }
         requires place { Some place ≡ position (T.plan.is_for (lent_call call.now)) (map T.shown self.old.rows.items) }
         requires full { (row : T.Shown) → self.old.session < number.session → slice_get (map T.shown self.old.rows.items) place ≡ Some row →
             T.plan.is_empty row ≡ false }
@@ -242,21 +185,43 @@ impl<T: Table> Rows<T> {
         match verdict_of(Some(T::last(row)), number) {
             Verdict::Stale => stale(self.alloc, call.kind()),
             Verdict::Repeated => repeated::<T>(self.alloc, row),
-            Verdict::Fresh => self.answer_fresh(place, number, call),
+            Verdict::Fresh => {
+                let id = T::id(row);
+                match self.carry_out_at(place, number, call) {
+                    Ok(reply) => {
+                        self.begin(number.session, forgettable);
+                        let row = if forgettable == 0 {
+                            Some(place)
+                        } else {
+                            place_of::<T>(self.rows.as_slice(), id).ok()
+                        };
+                        Ok(Answer {
+                            kind: call.kind(),
+                            reply,
+                            row,
+                        })
+                    }
+                    Err(fault) => Err(fault),
+                }
+            }
         }
     }
 
-    // Answers a call that has no row, none that isn't empty where it begins a session. An `Err` changes nothing.
-    fn answer_absent(&mut self, number: Number, call: &CallRef<'_>) -> Result<Answer, CoreFault>
-        requires asked { IsAsked T.plan T.is_sound (T.fixed self.old.table) (lent_call call.now) (rows_shown T.own T.shown self.old.table self.old.session self.old.rows.items)
-            (T.agrees self.old.table) self.old.empty }
-        requires not_over { self.old.session ≤ number.session }
+    // Answers a call that has no row, none that isn't empty where it begins a session, and by which so many are forgotten. An `Err` changes
+    // nothing.
+    fn answer_absent(
+        &mut self,
+        number: Number,
+        forgettable: usize,
+        call: &CallRef<'_>,
+    ) -> Result<Answer, CoreFault>
+        requires in_time { IsAskedInTime T.plan T.is_sound (T.fixed self.old.table) number (lent_call call.now)
+            (rows_shown T.own T.shown self.old.table self.old.session self.old.rows.items) (T.agrees self.old.table) self.old.empty forgettable }
         requires none { find (T.plan.is_for (lent_call call.now)) (staying T.plan.is_empty self.old.session number (map T.shown self.old.rows.items)) ≡ None }
         ensures { HaveAnswered T.plan T.is_sound T.is_frugal (T.fixed self.old.table) (T.fixed self.new.table) number (lent_call call.now)
             (rows_shown T.own T.shown self.old.table self.old.session self.old.rows.items)
             (rows_shown T.own T.shown self.new.table self.new.session self.new.rows.items) (T.agrees self.new.table) self.new.empty result }
     {
-        let forgettable = self.forgettable(number);
         let count = self.rows.len() - forgettable;
         match self.table.absent(count, self.alloc, number, call)? {
             Absent::Answered(reply) => {
@@ -281,27 +246,6 @@ impl<T: Table> Rows<T> {
         }
     }
 
-    // Where the row of the call is, unless it is forgotten by the call's session.
-    fn place_for(&self, number: Number, call: &CallRef<'_>) -> Option<usize>
-        requires kept { AreKept T.plan T.is_sound (T.agrees self.now.table) (rows_shown T.own T.shown self.now.table self.now.session self.now.rows.items) self.now.empty }
-        ensures place { IfSome result (λ place. Some place ≡ position (T.plan.is_for (lent_call call.now)) (map T.shown self.now.rows.items)) }
-        ensures full { IfSome result (λ place. (row : T.Shown) → self.now.session < number.session →
-            slice_get (map T.shown self.now.rows.items) place ≡ Some row → T.plan.is_empty row ≡ false) }
-        ensures none { result ≡ None → find (T.plan.is_for (lent_call call.now))
-            (staying T.plan.is_empty self.now.session number (map T.shown self.now.rows.items)) ≡ None }
-    {
-        match self.table.find(self.rows.as_slice(), call) {
-            Some(place) => {
-                if self.session < number.session && T::is_empty(&self.rows[place]) {
-                    None
-                } else {
-                    Some(place)
-                }
-            }
-            None => None,
-        }
-    }
-
     /// Answers a call of the plugin by the fence and the table: one of an earlier session than the greatest that came is stale, and one of a
     /// later session begins it, so that empty rows are forgotten. An `Err`, an allocation that was refused, changes nothing.
     pub fn answer(&mut self, number: Number, call: &CallRef<'_>) -> Result<Answer, CoreFault>
@@ -314,11 +258,20 @@ impl<T: Table> Rows<T> {
         if number.session < self.session {
             return stale(self.alloc, call.kind());
         }
-        match self.place_for(number, call) {
-            Some(place) => self.answer_at_row(place, number, call),
-            None => self.answer_absent(number, call),
+        // Where none is forgotten every row stays.
+        let forgettable = if self.session < number.session {
+            self.empty
+        } else {
+            0
+        };
+        match self.table.find(self.rows.as_slice(), call) {
+            Some(place) if forgettable == 0 || !T::is_empty(&self.rows[place]) => {
+                self.answer_at_row(place, number, forgettable, call)
+            }
+            _ => self.answer_absent(number, forgettable, call),
         }
     }
+
     /// This session begins, where it is later than the greatest that came, as if a call had begun it: empty rows are forgotten. It takes
     /// no memory.
     pub fn raise(&mut self, session: u64)

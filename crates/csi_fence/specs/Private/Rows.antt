@@ -1,12 +1,13 @@
 -- Rows where a session begins, and a call that is carried out at a place among them. This profile's own.
-use Rattle.std.specs.Prelude.{◌≡◌, ℕ, ◌<◌, ◌+◌, List, map, filter, count_by, length, slice_get, slice_set, vec_capacity, Bool, not, Some, if◌then◌else◌, Result, IfOk, IsOk, OnErr}
+use Rattle.std.specs.Prelude.{◌≡◌, ℕ, ◌<◌, ◌≤◌, ◌+◌, List, map, filter, count_by, length, slice_get, slice_set, vec_capacity, Bool, not, Some, if◌then◌else◌, Result, IfOk, IsOk, OnErr}
 use Rattle.std.specs.Global.{Vec}
 use Rattle.csi_types.specs.declared.call.Call.{Call}
 use Rattle.csi_types.specs.declared.number.Number.{Number}
 use Rattle.csi_types.specs.declared.reply.Reply.{Reply}
 use Rattle.csi_types.specs.declared.status.Status.TheVariants.{Ok}
 use Rattle.csi_fence.specs.declared.fault.CoreFault.{CoreFault}
-use Rattle.csi_fence.specs.Public.Rows.{AreRising, Plan, RowsState, Told, row_after, stays_in}
+use Rattle.csi_fence.specs.Model.Fence.{begins}
+use Rattle.csi_fence.specs.Public.Rows.{AreRising, IsAsked, Plan, RowsState, Told, row_after, stays_in}
 
 -- rows may forget: they are by rising id, what the table keeps beside them fits them, so many don't stay where this session has begun, and
 -- so many are empty
@@ -28,6 +29,12 @@ pub record HaveForgotten {Table Row Room Fixed Own S : Type 0} (plan : Plan Fixe
   pub own : own_of new ≡ own_of old
   pub agrees : fits new (map shown new_rows.items)
   pub has_room : (room : Room) (row : S) → has_room_for old room row → has_room_for new room row
+
+-- a call that isn't over is asked, and so many rows are forgotten by it
+pub record IsAskedInTime {Fixed Own S : Type 0} (plan : Plan Fixed Own S) (is_sound : Own → S → Type 0) (fixed : Fixed) (number : Number) (call : Call) (state : RowsState Own S) (agrees : List S → Type 0) (empty many : ℕ) : Type 0 where
+  pub asked : IsAsked plan is_sound fixed call state agrees empty
+  pub not_over : state.session ≤ number.session
+  pub forgettable : many ≡ (if begins state.session number then empty else 0)
 
 -- the row at this place was told so, and no other one is changed
 pub record IsCarriedAt {Fixed Own S : Type 0} (plan : Plan Fixed Own S) (is_sound : S → Type 0) (number : Number) (call : Call) (told : Told) (row : S) (place : ℕ) (old new : List S) (reply : Reply) : Type 0 where
