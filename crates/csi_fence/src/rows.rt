@@ -1,7 +1,7 @@
 //! Rows by id, behind the fence.
 ghost use Rattle.std.specs.Prelude.{◌≡◌, ◌≤◌, ◌<◌, ◌==◌, Some, None, true, false, map, find, count_by, position, length, slice_get, vec_capacity};
 ghost use Rattle.csi_types.specs.Public.Lent.{lent_call};
-ghost use Rattle.csi_fence.specs.Private.Rows.{HaveForgotten, IsAskedInTime, IsCarriedOutAt, IsRecounted, MayForget};
+ghost use Rattle.csi_fence.specs.Private.Rows.{HaveForgotten, IsAskedInTime, IsCarriedOutAt, MayForget};
 ghost use Rattle.csi_fence.specs.Public.Raised.{raised_rows};
 ghost use Rattle.csi_fence.specs.Public.Rows.{AreKept, AreRising, HaveAnswered, IsAsked, put_row, rows_shown, staying};
 
@@ -14,21 +14,6 @@ use crate::table::{Absent, Table};
 use crate::verdicts::{repeated, stale};
 use csi_types::{CallRef, Number, Reply};
 use std::alloc::Global;
-
-// How many rows are empty once one of them was and is so.
-fn recounted(empty: usize, was_empty: bool, is_empty: bool) -> usize
-    requires was { was_empty ≡ true → 1 ≤ empty }
-    requires few { empty ≤ 4096 }
-    ensures { IsRecounted empty was_empty is_empty result }
-{
-    if was_empty && !is_empty {
-        empty - 1
-    } else if is_empty && !was_empty {
-        empty + 1
-    } else {
-        empty
-    }
-}
 
 /// A plugin's rows by rising id, and its table: they answer a call behind the fence (this profile's own).
 pub struct Rows<T: Table> {
@@ -157,7 +142,7 @@ impl<T: Table> Rows<T> {
                 Ok(()) => (),
                 Err(fault) => return Err(fault),
             }
-            self.empty = recounted(self.empty, was_empty, T::is_empty(row));
+            self.empty = self.empty + usize::from(T::is_empty(row)) - usize::from(was_empty);
         }
         T::keep(row, number, call.kind(), kept);
         Ok(reply)

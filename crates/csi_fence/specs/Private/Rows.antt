@@ -1,5 +1,5 @@
 -- Rows where a session begins, and a call that is carried out at a place among them. This profile's own.
-use Rattle.std.specs.Prelude.{◌≡◌, ℕ, ◌<◌, ◌≤◌, ◌+◌, List, map, filter, count_by, length, slice_get, slice_set, vec_capacity, Bool, not, Some, if◌then◌else◌, Result, IfOk, IsOk, OnErr}
+use Rattle.std.specs.Prelude.{◌≡◌, ℕ, ◌<◌, ◌≤◌, List, map, filter, count_by, length, slice_get, slice_set, vec_capacity, not, Some, if◌then◌else◌, Result, IfOk, IsOk, OnErr}
 use Rattle.std.specs.Global.{Vec}
 use Rattle.csi_types.specs.declared.call.Call.{Call}
 use Rattle.csi_types.specs.declared.number.Number.{Number}
@@ -41,10 +41,6 @@ pub record IsCarriedAt {Fixed Own S : Type 0} (plan : Plan Fixed Own S) (is_soun
   pub is_reply : reply ≡ told.reply
   pub rows : new ≡ slice_set old place (row_after plan number call told row)
   pub sound : is_sound (row_after plan number call told row)
-
--- so many rows are empty once one of them was and is so
-abbrev pub IsRecounted : ℕ → Bool → Bool → ℕ → Type 0
-IsRecounted empty was is now = now + (if was then 1 else 0) ≡ empty + (if is then 1 else 0)
 
 -- a call was carried out at the row at this place: the row was told so, no other one is changed, as many rows as are counted are empty, and
 -- what the table keeps beside them fits them. An `Err` changes no row, and what takes no memory succeeds

@@ -1,4 +1,5 @@
-use Rattle.std.proofs.Common.{◌≡◌, ◌∙◌, ap, sym, subst, arith, Bool, map, slice_set, cond, refl, set-set}
+use Rattle.std.proofs.Common.{◌≡◌, ◌≤◌, ◌∙◌, ℕ, true, false, ap, sym, subst, arith, Bool, map, slice_set, cond, refl, set-set}
+use mir.Val.{bool_byte}
 use Rattle.std.specs.Prelude.{count_by}
 use Rattle.std.proofs.lemmas.List.{map-set}
 use Rattle.std.proofs.lemmas.Option.{same_Some, slice_get_within}
@@ -96,15 +97,27 @@ returns-in-Err-change g c =
     }
 
 -- how many are empty
-pub recounted-self-requires-clause-was : goal.recounted-self-requires-clause-was
-recounted-self-requires-clause-was g c = λ empty.
+byte : (b : Bool) → bool_byte b ≡ one_if b
+byte true = refl
+byte false = refl
+
+at_most : (b : Bool) (n : ℕ) → (b ≡ true → 1 ≤ n) → bool_byte b ≤ n
+at_most true n least = least refl
+at_most false n least = omega arith
+
+pub overflow_sub-self : goal.overflow_sub-self
+overflow_sub-self g c =
     let shown = g.T.Table.shown in
     let rows = c.args.self.now.rows.items in
     let was = c.index_mut-row.result.now in
+    let counted = c.requires.asked.kept.counted in
+    let least : c.is_empty-was_empty.result ≡ true → 1 ≤ c.args.self.now.empty = λ empty.
     let one =
     count-some g.T.Table.plan.is_empty (map shown rows) c.args.place (shown was) (shown-at shown rows c.args.place was c.index_mut-row.ensures.value c.requires.place) (sym c.is_empty-was_empty.ensures ∙ empty) in
-    let counted = c.requires.asked.kept.counted in
-    omega (arith, one, counted)
+    omega (arith, one, counted) in
+    let before = c.from-then-is_done.ensures in
+    let one = at_most c.is_empty-was_empty.result c.args.self.now.empty least in
+    omega (arith, before, one)
 
 -- the row after the call
 pub returns : goal.returns
@@ -156,10 +169,9 @@ returns g c =
           let kept = ap g.T.Table.plan.is_empty c.keep.ensures ∙ g.met.T.Table.orderly.keep_empty _ (shown c.if-is_done.row) in
           elim c.if-is_done.branch [
             | then-is_done+in-Ok-change w ↦
-                let before = ap (λ (b : Bool). one_if b) w.is_empty-was_empty.ensures in
-                let now = ap (λ (b : Bool). one_if b) (w.is_empty.ensures ∙ sym (kept ∙ ap (λ (r : g.row.T-Row.Denot). g.T.Table.plan.is_empty (shown r)) w.row-is)) in
-                let again = w.recounted-self.ensures in
-                rw (w.self-is) (omega (arith, sum, before, now, counted, again, same))
+                let before = w.from-then-is_done.ensures ∙ byte w.is_empty-was_empty.result ∙ ap (λ (b : Bool). one_if b) w.is_empty-was_empty.ensures in
+                let now = w.from.ensures ∙ byte w.is_empty.result ∙ ap (λ (b : Bool). one_if b) (w.is_empty.ensures ∙ sym (kept ∙ ap (λ (r : g.row.T-Row.Denot). g.T.Table.plan.is_empty (shown r)) w.row-is)) in
+                rw (w.self-is) (omega (arith, sum, before, now, counted, same))
             | else-is_done w ↦
                 let now = ap (λ (b : Bool). one_if b) (kept ∙ ap (λ (r : g.row.T-Row.Denot). g.T.Table.plan.is_empty (shown r)) w.row-is) in
                 rw (w.self-is) (omega (arith, sum, now, counted, same))
