@@ -1,6 +1,6 @@
 //! What a line of a table answers.
 ghost use Rattle.std.specs.Prelude.{◌≡◌};
-ghost use Rattle.csi_fence.specs.Public.Line.{told_by, Gives};
+ghost use Rattle.csi_fence.specs.Public.Line.{told_by, GivesCopy};
 
 use crate::fault::CoreFault;
 use csi_types::{Detail, Reply, Status, VolumeId};
@@ -20,7 +20,7 @@ pub enum Line<'a> {
 // A detail of this text. An empty one takes no memory, and no bytes are copied for it.
 #[inline(always)]
 fn detail_of(alloc: Global, text: &str) -> Result<Detail, CoreFault>
-    ensures { Gives text.now text.now result }
+    ensures { GivesCopy text.now text.now result }
 {
     if text.is_empty() {
         return Ok(Detail::try_new(alloc, "").unwrap());
@@ -33,7 +33,7 @@ fn detail_of(alloc: Global, text: &str) -> Result<Detail, CoreFault>
 
 /// A copy of a reply. Without a detail it takes no memory.
 pub(crate) fn copied(alloc: Global, reply: &Reply) -> Result<Reply, CoreFault>
-    ensures { Gives reply.now.detail reply.now result }
+    ensures { GivesCopy reply.now.detail reply.now result }
 {
     match detail_of(alloc, reply.detail.as_str()) {
         Ok(detail) => Ok(Reply {
@@ -55,7 +55,7 @@ impl Line<'_> {
 
     /// As a reply. Without a detail it takes no memory.
     pub fn reply(&self, alloc: Global) -> Result<Reply, CoreFault>
-        ensures { Gives (told_by self.now).reply.detail (told_by self.now).reply result }
+        ensures { GivesCopy (told_by self.now).reply.detail (told_by self.now).reply result }
     {
         let (status, id, text) = match self {
             Line::Refused(status, text) => (*status, None, *text),

@@ -1,9 +1,9 @@
 //! Rows by id, behind the fence.
 ghost use Rattle.std.specs.Prelude.{◌≡◌, ◌≤◌, ◌<◌, ◌==◌, Some, None, true, false, map, find, count_by, position, length, slice_get, vec_capacity};
 ghost use Rattle.csi_types.specs.Public.Lent.{lent_call};
-ghost use Rattle.csi_fence.specs.Private.Rows.{HaveForgotten, IsAskedInTime, IsCarriedOutAt, MayForget};
+ghost use Rattle.csi_fence.specs.Private.Rows.{HaveForgotten, IsAskedInTime, IsCarriedOutAt, CanForget};
 ghost use Rattle.csi_fence.specs.Public.Raised.{raised_rows};
-ghost use Rattle.csi_fence.specs.Public.Rows.{AreKept, AreRising, HaveAnswered, IsAsked, put_row, rows_shown, staying};
+ghost use Rattle.csi_fence.specs.Public.Rows.{AreKept, AreRising, HaveAnswered, IsAskedOf, put_row, rows_shown, staying};
 
 use crate::answer::Answer;
 use crate::fault::CoreFault;
@@ -64,7 +64,7 @@ impl<T: Table> Rows<T> {
     // So many empty rows are forgotten, where the session has begun. It takes no memory.
     #[inline(never)]
     fn forget(&mut self, forgettable: usize)
-        requires { MayForget T.plan (T.agrees self.old.table) (map T.shown self.old.rows.items) self.old.session forgettable self.old.empty }
+        requires { CanForget T.plan (T.agrees self.old.table) (map T.shown self.old.rows.items) self.old.session forgettable self.old.empty }
         ensures { HaveForgotten T.plan T.fixed T.own T.shown T.agrees T.has_room self.old.session self.new.session self.old.table self.new.table self.old.rows
             self.new.rows self.new.empty }
     {
@@ -78,7 +78,7 @@ impl<T: Table> Rows<T> {
     // The session begins, or goes on, and so many empty rows are forgotten. It takes no memory.
     #[inline(always)]
     fn begin(&mut self, session: u64, forgettable: usize)
-        requires { MayForget T.plan (T.agrees self.old.table) (map T.shown self.old.rows.items) session forgettable self.old.empty }
+        requires { CanForget T.plan (T.agrees self.old.table) (map T.shown self.old.rows.items) session forgettable self.old.empty }
         ensures { HaveForgotten T.plan T.fixed T.own T.shown T.agrees T.has_room session self.new.session self.old.table self.new.table self.old.rows
             self.new.rows self.new.empty }
     {
@@ -117,7 +117,7 @@ impl<T: Table> Rows<T> {
         number: Number,
         call: &CallRef<'_>,
     ) -> Result<Reply, CoreFault>
-        requires asked { IsAsked T.plan T.is_sound (T.fixed self.old.table) (lent_call call.now) (rows_shown T.own T.shown self.old.table self.old.session self.old.rows.items)
+        requires asked { IsAskedOf T.plan T.is_sound (T.fixed self.old.table) (lent_call call.now) (rows_shown T.own T.shown self.old.table self.old.session self.old.rows.items)
             (T.agrees self.old.table) self.old.empty }
         requires place { place < length self.old.rows.items }
         requires is_own { (row : T.Shown) → slice_get (map T.shown self.old.rows.items) place ≡ Some row → T.plan.is_for (lent_call call.now) row ≡ true }
@@ -234,7 +234,7 @@ impl<T: Table> Rows<T> {
     /// Answers a call of the plugin by the fence and the table: one of an earlier session than the greatest that came is stale, and one of a
     /// later session begins it, so that empty rows are forgotten. An `Err`, an allocation that was refused, changes nothing.
     pub fn answer(&mut self, number: Number, call: &CallRef<'_>) -> Result<Answer, CoreFault>
-        requires { IsAsked T.plan T.is_sound (T.fixed self.old.table) (lent_call call.now) (rows_shown T.own T.shown self.old.table self.old.session self.old.rows.items)
+        requires { IsAskedOf T.plan T.is_sound (T.fixed self.old.table) (lent_call call.now) (rows_shown T.own T.shown self.old.table self.old.session self.old.rows.items)
             (T.agrees self.old.table) self.old.empty }
         ensures { HaveAnswered T.plan T.is_sound T.is_frugal (T.fixed self.old.table) (T.fixed self.new.table) number (lent_call call.now)
             (rows_shown T.own T.shown self.old.table self.old.session self.old.rows.items)

@@ -1,7 +1,7 @@
 //! What a call gets that the fence doesn't let through.
 ghost use Rattle.std.specs.Prelude.{◌≡◌, None, IfOk};
 ghost use Rattle.csi_types.specs.Model.Replies.{stale_reply};
-ghost use Rattle.csi_fence.specs.Public.Line.{Gives};
+ghost use Rattle.csi_fence.specs.Public.Line.{GivesCopy};
 
 use crate::answer::Answer;
 use crate::fault::CoreFault;
@@ -26,7 +26,7 @@ pub fn stale(alloc: Global, kind: Kind) -> Result<Answer, CoreFault>
 
 /// The reply that a row keeps, again. Without a detail it takes no memory.
 pub fn repeated<T: Table>(alloc: Global, row: &T::Row) -> Result<Answer, CoreFault>
-    ensures { Gives (T.plan.kept (T.shown row.now)).reply.detail
+    ensures { GivesCopy (T.plan.kept (T.shown row.now)).reply.detail
         (record { kind = (T.plan.kept (T.shown row.now)).kind; reply = (T.plan.kept (T.shown row.now)).reply; row = None }) result }
 {
     match copied(alloc, T::reply(row)) {

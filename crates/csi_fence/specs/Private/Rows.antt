@@ -7,11 +7,11 @@ use Rattle.csi_types.specs.declared.reply.Reply.{Reply}
 use Rattle.csi_types.specs.declared.status.Status.TheVariants.{Ok}
 use Rattle.csi_fence.specs.declared.fault.CoreFault.{CoreFault}
 use Rattle.csi_fence.specs.Model.Fence.{begins}
-use Rattle.csi_fence.specs.Public.Rows.{AreRising, IsAsked, Plan, RowsState, Told, row_after, stays_in}
+use Rattle.csi_fence.specs.Public.Rows.{AreRising, IsAskedOf, Plan, RowsState, Told, row_after, stays_in}
 
--- rows may forget: they are by rising id, what the table keeps beside them fits them, so many don't stay where this session has begun, and
+-- rows can forget: they are by rising id, what the table keeps beside them fits them, so many don't stay where this session has begun, and
 -- so many are empty
-pub record MayForget {Fixed Own S : Type 0} (plan : Plan Fixed Own S) (fits : List S → Type 0) (rows : List S) (session many none : ℕ) : Type 0 where
+pub record CanForget {Fixed Own S : Type 0} (plan : Plan Fixed Own S) (fits : List S → Type 0) (rows : List S) (session many none : ℕ) : Type 0 where
   pub rising : AreRising plan.id rows
   pub agrees : fits rows
   pub forgettable : many ≡ count_by (λ row. not (stays_in plan session row)) rows
@@ -32,7 +32,7 @@ pub record HaveForgotten {Table Row Room Fixed Own S : Type 0} (plan : Plan Fixe
 
 -- a call that isn't over is asked, and so many rows are forgotten by it
 pub record IsAskedInTime {Fixed Own S : Type 0} (plan : Plan Fixed Own S) (is_sound : Own → S → Type 0) (fixed : Fixed) (number : Number) (call : Call) (state : RowsState Own S) (agrees : List S → Type 0) (empty many : ℕ) : Type 0 where
-  pub asked : IsAsked plan is_sound fixed call state agrees empty
+  pub asked : IsAskedOf plan is_sound fixed call state agrees empty
   pub not_over : state.session ≤ number.session
   pub forgettable : many ≡ (if begins state.session number then empty else 0)
 

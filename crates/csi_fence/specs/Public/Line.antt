@@ -13,7 +13,7 @@ told_by (Refused status detail) = record { reply = plain_reply status detail.now
 told_by (Met id) = record { reply = record { status = Ok; id = id; detail = [] }; is_done = false }
 told_by Done = record { reply = ok_reply; is_done = true }
 
--- what is given has this detail: it is this, and without a detail it takes no memory
-pub record Gives {A : Type 0} (detail : List ℕ) (value : A) (result : Result A CoreFault) : Type 0 where
+-- a copy is this value, and one without a detail takes no memory
+pub record GivesCopy {A : Type 0} (detail : List ℕ) (value : A) (result : Result A CoreFault) : Type 0 where
   pub ok : IfOk result (λ given. given ≡ value)
   pub succeeds : detail ≡ [] → IsOk result

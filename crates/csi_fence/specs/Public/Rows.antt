@@ -198,7 +198,7 @@ pub record Answers {Fixed Own S : Type 0} (plan : Plan Fixed Own S) (is_sound : 
       → (carried plan fixed (in_session (rows_machine plan fixed) number old) number call).reply.status ≡ Ok → IsOk result
 
 -- a call of their plugin is asked of rows that keep the rules
-pub record IsAsked {Fixed Own S : Type 0} (plan : Plan Fixed Own S) (is_sound : Own → S → Type 0) (fixed : Fixed) (call : Call) (state : RowsState Own S) (agrees : List S → Type 0) (empty : ℕ) : Type 0 where
+pub record IsAskedOf {Fixed Own S : Type 0} (plan : Plan Fixed Own S) (is_sound : Own → S → Type 0) (fixed : Fixed) (call : Call) (state : RowsState Own S) (agrees : List S → Type 0) (empty : ℕ) : Type 0 where
   pub party : IsTrue (is_party_of (kind_of call) (plan.party fixed))
   pub kept : AreKept plan is_sound agrees state empty
 
