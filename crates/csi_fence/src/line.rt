@@ -17,9 +17,9 @@ pub enum Line<'a> {
     Done,
 }
 
-// A detail of this text. An empty one takes no memory, and no bytes are copied for it.
+/// A detail of this text. An empty one takes no memory, and no bytes are copied for it.
 #[inline(always)]
-fn detail_of(alloc: Global, text: &str) -> Result<Detail, CoreFault>
+pub(crate) fn detail_of(alloc: Global, text: &str) -> Result<Detail, CoreFault>
     ensures { GivesCopy text.now text.now result }
 {
     if text.is_empty() {
@@ -28,20 +28,6 @@ fn detail_of(alloc: Global, text: &str) -> Result<Detail, CoreFault>
     match Detail::try_new(alloc, text) {
         Ok(detail) => Ok(detail),
         Err(_) => Err(CoreFault::NoMemory),
-    }
-}
-
-/// A copy of a reply. Without a detail it takes no memory.
-pub(crate) fn copied(alloc: Global, reply: &Reply) -> Result<Reply, CoreFault>
-    ensures { GivesCopy reply.now.detail reply.now result }
-{
-    match detail_of(alloc, reply.detail.as_str()) {
-        Ok(detail) => Ok(Reply {
-            status: reply.status,
-            id: reply.id,
-            detail,
-        }),
-        Err(fault) => Err(fault),
     }
 }
 

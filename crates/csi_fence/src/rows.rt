@@ -8,7 +8,6 @@ ghost use Rattle.csi_fence.specs.Public.Rows.{AreKept, AreRising, HaveAnswered, 
 use crate::answer::Answer;
 use crate::fault::CoreFault;
 use crate::fence::{Verdict, verdict_of};
-use crate::line::copied;
 use crate::places::place_of;
 use crate::table::{Absent, Table};
 use crate::verdicts::{repeated, stale};
@@ -132,7 +131,7 @@ impl<T: Table> Rows<T> {
             Ok(reply) => reply,
             Err(fault) => return Err(fault),
         };
-        let reply = match copied(self.alloc, &kept) {
+        let reply = match line.reply(self.alloc) {
             Ok(reply) => reply,
             Err(fault) => return Err(fault),
         };

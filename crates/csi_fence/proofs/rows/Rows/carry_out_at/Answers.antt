@@ -36,7 +36,7 @@ change-requires-clause-sound g c =
     let was = c.index_mut-row.result.now in
     all-at (g.T.Table.is_sound (g.T.Table.own c.args.self.now.table)) (map shown rows) c.args.place (shown was) c.requires.asked.kept.each (shown-at shown rows c.args.place was c.index_mut-row.ensures.value c.requires.place)
 
--- a reply that isn't made, and one that isn't copied: what takes no memory
+-- a reply that isn't made, the first or the second: what takes no memory
 pub returns-in-Err : goal.returns-in-Err
 returns-in-Err g c =
     let shown = g.T.Table.shown in
@@ -58,8 +58,8 @@ returns-in-Err g c =
           ∙ ap (λ (r : g.T.Table.Shown). (g.T.Table.plan.line (g.T.Table.fixed c.args.self.now.table) (map shown rows) r (lent_call c.args.call.now)).reply.status) (same_Some (shown was) row (sym at ∙ there)) ∙ ok));
     }
 
-pub returns-in-Err-copied : goal.returns-in-Err-copied
-returns-in-Err-copied g c =
+pub returns-in-Err-reply : goal.returns-in-Err-reply
+returns-in-Err-reply g c =
     let shown = g.T.Table.shown in
     let rows = c.args.self.now.rows.items in
     let was = c.index_mut-row.result.now in
@@ -77,7 +77,7 @@ returns-in-Err-copied g c =
       frugal = λ row there frugal ok.
           let plain = c.line-line.ensures.plain (ap (λ (t : Told). t.reply.status) told
           ∙ ap (λ (r : g.T.Table.Shown). (g.T.Table.plan.line (g.T.Table.fixed c.args.self.now.table) (map shown rows) r (lent_call c.args.call.now)).reply.status) (same_Some (shown was) row (sym at ∙ there)) ∙ ok) in
-          c.in-Err-copied.ensures.succeeds (rw (c.in-Ok.ensures.ok) plain);
+          c.in-Err-reply.ensures.succeeds plain;
     }
 
 -- a change that was refused
@@ -152,13 +152,13 @@ returns g c =
           subst
           (λ (r : g.T.Table.Shown).
           IsCarriedAt plan (g.T.Table.is_sound own) c.args.number call (plan.line (g.T.Table.fixed c.args.self.now.table) (map shown rows) r call) r c.args.place (map shown rows)
-          (map shown (slice_set rows c.args.place c.keep.new.row)) c.in-Ok-copied.reply)
+          (map shown (slice_set rows c.args.place c.keep.new.row)) c.in-Ok-reply.reply)
           (same_Some (shown was) row (sym at ∙ there))
           (subst
-          (λ (t : Told). IsCarriedAt plan (g.T.Table.is_sound own) c.args.number call t (shown was) c.args.place (map shown rows) (map shown (slice_set rows c.args.place c.keep.new.row)) c.in-Ok-copied.reply)
+          (λ (t : Told). IsCarriedAt plan (g.T.Table.is_sound own) c.args.number call t (shown was) c.args.place (map shown rows) (map shown (slice_set rows c.args.place c.keep.new.row)) c.in-Ok-reply.reply)
           told
           (record {
-            is_reply = c.in-Ok-copied.ensures.ok ∙ c.in-Ok.ensures.ok;
+            is_reply = c.in-Ok-reply.ensures.ok;
             rows = map-set shown rows c.args.place c.keep.new.row ∙ ap (slice_set (map shown rows) c.args.place) after;
             sound = g.met.T.Table.orderly.keep_sound (g.T.Table.fixed c.args.self.now.table) own kept changed (subst (g.T.Table.is_sound own) made.0 made.1) c.line-line.ensures.allowed;
           }));
