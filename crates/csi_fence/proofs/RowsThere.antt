@@ -3,6 +3,7 @@ use Rattle.std.proofs.Common.{◌≡◌, ◌<◌, ℕ, zero, suc, Bool, true, fa
 use Rattle.std.specs.Prelude.{All, Some, None, count_by, option_map, find, filter, position, slice_get, nat_lt}
 use Rattle.std.specs.List.{position_or_len}
 use Rattle.std.proofs.lemmas.Bool.{ltb-true}
+use Rattle.std.proofs.lemmas.List.{length-map}
 use Rattle.std.proofs.lemmas.List.Folds.{find_at}
 use Rattle.std.proofs.lemmas.Option.{same_Some, slice_get-get_or, slice_get-map, slice_get_read, slice_get_within}
 use Rattle.csi_types.specs.declared.number.Number.{Number}
@@ -43,6 +44,13 @@ absent-there p rows none = find-no_place p rows (sym none)
 -- a row that is read at a place, as it is shown
 pub shown-at : {R S : Type 0} (shown : R → S) (rows : List R) (place : ℕ) (row : R) → row ≡ get_or rows place row → place < length rows → slice_get (map shown rows) place ≡ Some (shown row)
 shown-at shown rows place row is inside = slice_get-map shown rows place ∙ ap (option_map shown) (slice_get_read rows (length rows) place row refl inside is)
+
+-- so is one that is read at the place that a search gives
+pub placed-at : {R S : Type 0} (shown : R → S) (p : S → Bool) (rows : List R) (place : ℕ) (row : R) → Some place ≡ position p (map shown rows) → row ≡ get_or rows place row → slice_get (map shown rows) place ≡ Some (shown row)
+placed-at shown p rows place row is read =
+    let inside = (found-there p (map shown rows) place is).1 in
+    let many = length-map rows shown in
+    shown-at shown rows place row read (omega (arith, inside, many))
 
 -- what is so of each is so of the row there
 pub all-at : {S : Type 0} (P : S → Type 0) (rows : List S) (place : ℕ) (row : S) → All P rows → slice_get rows place ≡ Some row → P row

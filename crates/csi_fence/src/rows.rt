@@ -109,7 +109,7 @@ impl<T: Table> Rows<T> {
         place
     }
 
-    // Carries out a call at the row at this place, and counts anew how many are empty. An `Err` changes nothing.
+    // Carries out a call at its row, which is at this place, and counts anew how many are empty. An `Err` changes nothing.
     fn carry_out_at(
         &mut self,
         place: usize,
@@ -118,8 +118,7 @@ impl<T: Table> Rows<T> {
     ) -> Result<Reply, CoreFault>
         requires asked { IsAskedOf T.plan T.is_sound (T.fixed self.old.table) (lent_call call.now) (rows_shown T.own T.shown self.old.table self.old.session self.old.rows.items)
             (T.agrees self.old.table) self.old.empty }
-        requires place { place < length self.old.rows.items }
-        requires is_own { (row : T.Shown) → slice_get (map T.shown self.old.rows.items) place ≡ Some row → T.plan.is_for (lent_call call.now) row ≡ true }
+        requires place { Some place ≡ position (T.plan.is_for (lent_call call.now)) (map T.shown self.old.rows.items) }
         ensures { IsCarriedOutAt T.plan T.is_sound T.is_frugal (T.fixed self.old.table) (T.fixed self.new.table) number (lent_call call.now) place
             (rows_shown T.own T.shown self.old.table self.old.session self.old.rows.items)
             (rows_shown T.own T.shown self.new.table self.new.session self.new.rows.items) (T.agrees self.new.table) self.new.empty result }

@@ -1,7 +1,6 @@
-use Rattle.std.proofs.Common.{◌≡◌, ◌∙◌, sym, ap, subst, refl, arith, ℕ, not, List, Some, None, IfOk, IfErr, map, slice_get}
+use Rattle.std.proofs.Common.{◌≡◌, ◌∙◌, sym, ap, subst, refl, ℕ, not, List, Some, None, IfOk, IfErr, map, slice_get}
 use Rattle.std.specs.Prelude.{count_by, filter}
 use Rattle.std.proofs.lemmas.Bool.{false≢true}
-use Rattle.std.proofs.lemmas.List.{length-map}
 use Rattle.csi_types.specs.declared.call.Kind.{Kind}
 use Rattle.csi_types.specs.declared.number.Number.{Number}
 use Rattle.csi_types.specs.Model.Replies.{stale_reply}
@@ -9,12 +8,11 @@ use Rattle.csi_types.specs.Public.Lent.{lent_call}
 use Rattle.csi_fence.specs.declared.answer.Answer.{Answer}
 use Rattle.csi_fence.specs.Model.Fence.{verdict_of}
 use Rattle.csi_types.specs.declared.reply.Reply.{Reply}
-use Rattle.csi_types.proofs.Searches.{find-passes}
 use Rattle.csi_fence.specs.Public.Rows.{AreRising, IsGapFor, IsPlaceOf, row_after, rows_shown, stays_in}
 use Rattle.csi_fence.proofs.Answering.{again-answers, answers-err, answers-ok, kept-same, late-answers, repeat-fresh}
 use Rattle.csi_fence.proofs.FreshRows.{set-answered, set-carried, set-forgotten, set-kept, set-rising, stands-searched, stands-there}
 use Rattle.csi_fence.proofs.RisingRows.{rising-filter}
-use Rattle.csi_fence.proofs.RowsThere.{found-staying, found-there, shown-at}
+use Rattle.csi_fence.proofs.RowsThere.{found-staying, found-there, placed-at}
 use Rattle.csi_fence.proofs.rows.Rows.answer_at_row.Goals.{then-forgettable-eq0, else-forgettable-eq0}
 use Rattle.csi_fence.proofs.rows.Rows.answer_at_row.Goals as goal
 
@@ -25,9 +23,7 @@ returns-in-Stale g c =
     let was = t.shown c.index-row.result.now in
     let call = lent_call c.args.call.now in
     let there = found-there (t.plan.is_for call) (map t.shown rows) c.args.place c.requires.place in
-    let inside = there.1 in
-    let many = length-map rows t.shown in
-    let at = shown-at t.shown rows c.args.place c.index-row.result.now c.index-row.ensures (omega (arith, inside, many)) in
+    let at = placed-at t.shown (t.plan.is_for call) rows c.args.place c.index-row.result.now c.requires.place c.index-row.ensures in
     let found = found-staying (t.plan.is_for call) t.plan.is_empty c.args.self.now.session c.args.number (map t.shown rows) was
     (g.met.T.Table.has_one_row c.args.self.now.table (map t.shown rows) call c.requires.in_time.asked.kept.fits c.requires.in_time.asked.kept.rising) (there.0 ∙ at) (λ later. c.requires.full was later at) in
     record {
@@ -46,9 +42,7 @@ returns-in-Repeated g c =
     let was = t.shown c.index-row.result.now in
     let call = lent_call c.args.call.now in
     let there = found-there (t.plan.is_for call) (map t.shown rows) c.args.place c.requires.place in
-    let inside = there.1 in
-    let many = length-map rows t.shown in
-    let at = shown-at t.shown rows c.args.place c.index-row.result.now c.index-row.ensures (omega (arith, inside, many)) in
+    let at = placed-at t.shown (t.plan.is_for call) rows c.args.place c.index-row.result.now c.requires.place c.index-row.ensures in
     let found = found-staying (t.plan.is_for call) t.plan.is_empty c.args.self.now.session c.args.number (map t.shown rows) was
     (g.met.T.Table.has_one_row c.args.self.now.table (map t.shown rows) call c.requires.in_time.asked.kept.fits c.requires.in_time.asked.kept.rising) (there.0 ∙ at) (λ later. c.requires.full was later at) in
     record {
@@ -61,22 +55,13 @@ returns-in-Repeated g c =
 
 -- ---- the call that is carried out
 
-pub carry_out_at-requires-clause-is_own : goal.carry_out_at-requires-clause-is_own
-carry_out_at-requires-clause-is_own g c = λ row at.
-    let p = g.T.Table.plan.is_for (lent_call c.args.call.now) in
-    let there = found-there p (map g.T.Table.shown c.args.self.now.rows.items) c.args.place c.requires.place in
-    find-passes p (map g.T.Table.shown c.args.self.now.rows.items) row (there.0 ∙ at)
-
 pub begin-requires : goal.begin-requires
 begin-requires g c =
     let t = g.T.Table in
     let rows = c.args.self.now.rows.items in
     let was = t.shown c.index-row.result.now in
     let call = lent_call c.args.call.now in
-    let there = found-there (t.plan.is_for call) (map t.shown rows) c.args.place c.requires.place in
-    let inside = there.1 in
-    let many = length-map rows t.shown in
-    let at = shown-at t.shown rows c.args.place c.index-row.result.now c.index-row.ensures (omega (arith, inside, many)) in
+    let at = placed-at t.shown (t.plan.is_for call) rows c.args.place c.index-row.result.now c.requires.place c.index-row.ensures in
     let told = t.plan.line (t.fixed c.args.self.now.table) (map t.shown rows) was call in
     let old = rows_shown t.own t.shown c.args.self.now.table c.args.self.now.session rows in
     let carried = c.in-Ok.ensures.ok was at in
@@ -94,10 +79,7 @@ place_of-requires g c =
     let rows = c.args.self.now.rows.items in
     let was = t.shown c.index-row.result.now in
     let call = lent_call c.args.call.now in
-    let there = found-there (t.plan.is_for call) (map t.shown rows) c.args.place c.requires.place in
-    let inside = there.1 in
-    let many = length-map rows t.shown in
-    let at = shown-at t.shown rows c.args.place c.index-row.result.now c.index-row.ensures (omega (arith, inside, many)) in
+    let at = placed-at t.shown (t.plan.is_for call) rows c.args.place c.index-row.result.now c.requires.place c.index-row.ensures in
     let told = t.plan.line (t.fixed c.args.self.now.table) (map t.shown rows) was call in
     let old = rows_shown t.own t.shown c.args.self.now.table c.args.self.now.session rows in
     let carried = c.in-Ok.ensures.ok was at in
@@ -113,9 +95,7 @@ returns-after-forgettable-eq0 g c =
     let was = t.shown c.index-row.result.now in
     let call = lent_call c.args.call.now in
     let there = found-there (t.plan.is_for call) (map t.shown rows) c.args.place c.requires.place in
-    let inside = there.1 in
-    let many = length-map rows t.shown in
-    let at = shown-at t.shown rows c.args.place c.index-row.result.now c.index-row.ensures (omega (arith, inside, many)) in
+    let at = placed-at t.shown (t.plan.is_for call) rows c.args.place c.index-row.result.now c.requires.place c.index-row.ensures in
     let found = found-staying (t.plan.is_for call) t.plan.is_empty c.args.self.now.session c.args.number (map t.shown rows) was
     (g.met.T.Table.has_one_row c.args.self.now.table (map t.shown rows) call c.requires.in_time.asked.kept.fits c.requires.in_time.asked.kept.rising) (there.0 ∙ at) (λ later. c.requires.full was later at) in
     let fresh = ap (λ (n : Number). verdict_of (Some n) c.args.number) (sym c.last.ensures) ∙ sym c.verdict_of.ensures ∙ c.in-Fresh.is in
@@ -163,9 +143,7 @@ returns-in-Err g c =
     let was = t.shown c.index-row.result.now in
     let call = lent_call c.args.call.now in
     let there = found-there (t.plan.is_for call) (map t.shown rows) c.args.place c.requires.place in
-    let inside = there.1 in
-    let many = length-map rows t.shown in
-    let at = shown-at t.shown rows c.args.place c.index-row.result.now c.index-row.ensures (omega (arith, inside, many)) in
+    let at = placed-at t.shown (t.plan.is_for call) rows c.args.place c.index-row.result.now c.requires.place c.index-row.ensures in
     let found = found-staying (t.plan.is_for call) t.plan.is_empty c.args.self.now.session c.args.number (map t.shown rows) was
     (g.met.T.Table.has_one_row c.args.self.now.table (map t.shown rows) call c.requires.in_time.asked.kept.fits c.requires.in_time.asked.kept.rising) (there.0 ∙ at) (λ later. c.requires.full was later at) in
     let fresh = ap (λ (n : Number). verdict_of (Some n) c.args.number) (sym c.last.ensures) ∙ sym c.verdict_of.ensures ∙ c.in-Fresh.is in

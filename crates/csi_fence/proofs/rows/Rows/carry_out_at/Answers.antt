@@ -6,35 +6,47 @@ use Rattle.std.proofs.lemmas.Option.{same_Some, slice_get_within}
 use Rattle.std.proofs.Math.Seq.{map-set_same}
 use Rattle.csi_types.specs.Model.Call.{kind_of}
 use Rattle.csi_types.specs.Public.Lent.{lent_call}
+use Rattle.csi_types.proofs.Searches.{find-passes}
 use Rattle.csi_fence.specs.Model.Fence.{Kept}
 use Rattle.csi_fence.specs.Private.Rows.{IsCarriedAt}
 use Rattle.csi_fence.specs.Public.Line.{told_by}
 use Rattle.csi_fence.specs.Public.Rows.{Told, row_after}
 use Rattle.csi_fence.proofs.PlacedRows.{set-got}
-use Rattle.csi_fence.proofs.RowsThere.{all-at, shown-at}
+use Rattle.csi_fence.proofs.RowsThere.{all-at, found-there, placed-at}
 use Rattle.csi_fence.proofs.StayingRows.{count-set, count-some, one_if}
 use Rattle.csi_fence.proofs.rows.Rows.carry_out_at.Goals as goal
 use Rattle.csi_fence.proofs.rows.Rows.carry_out_at.Goals.{then-is_done+in-Ok-change, else-is_done}
 
 -- the row is there
+pub line-line-requires-clause-own : goal.line-line-requires-clause-own
+line-line-requires-clause-own g c =
+    let shown = g.T.Table.shown in
+    let rows = c.args.self.now.rows.items in
+    let was = c.index_mut-row.result.now in
+    let p = g.T.Table.plan.is_for (lent_call c.args.call.now) in
+    find-passes p (map shown rows) (shown was) ((found-there p (map shown rows) c.args.place c.requires.place).0 ∙ placed-at shown p rows c.args.place was c.requires.place c.index_mut-row.ensures.value)
+
 pub line-line-requires-clause-sound : goal.line-line-requires-clause-sound
 line-line-requires-clause-sound g c =
     let shown = g.T.Table.shown in
     let rows = c.args.self.now.rows.items in
     let was = c.index_mut-row.result.now in
-    all-at (g.T.Table.is_sound (g.T.Table.own c.args.self.now.table)) (map shown rows) c.args.place (shown was) c.requires.asked.kept.each (shown-at shown rows c.args.place was c.index_mut-row.ensures.value c.requires.place)
+    all-at (g.T.Table.is_sound (g.T.Table.own c.args.self.now.table)) (map shown rows) c.args.place (shown was) c.requires.asked.kept.each (placed-at shown (g.T.Table.plan.is_for (lent_call c.args.call.now)) rows c.args.place was c.requires.place c.index_mut-row.ensures.value)
 
 pub change-requires-clause-own : goal.change-requires-clause-own
 change-requires-clause-own g c =
+    let shown = g.T.Table.shown in
+    let rows = c.args.self.now.rows.items in
     let was = c.index_mut-row.result.now in
-    c.requires.is_own (g.T.Table.shown was) (shown-at g.T.Table.shown c.args.self.now.rows.items c.args.place was c.index_mut-row.ensures.value c.requires.place)
+    let p = g.T.Table.plan.is_for (lent_call c.args.call.now) in
+    find-passes p (map shown rows) (shown was) ((found-there p (map shown rows) c.args.place c.requires.place).0 ∙ placed-at shown p rows c.args.place was c.requires.place c.index_mut-row.ensures.value)
 
 pub change-requires-clause-sound : goal.change-requires-clause-sound
 change-requires-clause-sound g c =
     let shown = g.T.Table.shown in
     let rows = c.args.self.now.rows.items in
     let was = c.index_mut-row.result.now in
-    all-at (g.T.Table.is_sound (g.T.Table.own c.args.self.now.table)) (map shown rows) c.args.place (shown was) c.requires.asked.kept.each (shown-at shown rows c.args.place was c.index_mut-row.ensures.value c.requires.place)
+    all-at (g.T.Table.is_sound (g.T.Table.own c.args.self.now.table)) (map shown rows) c.args.place (shown was) c.requires.asked.kept.each (placed-at shown (g.T.Table.plan.is_for (lent_call c.args.call.now)) rows c.args.place was c.requires.place c.index_mut-row.ensures.value)
 
 -- a reply that isn't made, the first or the second: what takes no memory
 pub returns-in-Err : goal.returns-in-Err
@@ -42,7 +54,7 @@ returns-in-Err g c =
     let shown = g.T.Table.shown in
     let rows = c.args.self.now.rows.items in
     let was = c.index_mut-row.result.now in
-    let at = shown-at shown rows c.args.place was c.index_mut-row.ensures.value c.requires.place in
+    let at = placed-at shown (g.T.Table.plan.is_for (lent_call c.args.call.now)) rows c.args.place was c.requires.place c.index_mut-row.ensures.value in
     let told = c.line-line.ensures.told (map shown rows) c.requires.asked.kept.fits in
     let same = map-set_same shown rows c.args.place was was (ap shown c.index_mut-row.ensures.value) in
     record {
@@ -63,7 +75,7 @@ returns-in-Err-reply g c =
     let shown = g.T.Table.shown in
     let rows = c.args.self.now.rows.items in
     let was = c.index_mut-row.result.now in
-    let at = shown-at shown rows c.args.place was c.index_mut-row.ensures.value c.requires.place in
+    let at = placed-at shown (g.T.Table.plan.is_for (lent_call c.args.call.now)) rows c.args.place was c.requires.place c.index_mut-row.ensures.value in
     let told = c.line-line.ensures.told (map shown rows) c.requires.asked.kept.fits in
     let same = map-set_same shown rows c.args.place was was (ap shown c.index_mut-row.ensures.value) in
     record {
@@ -113,7 +125,7 @@ overflow_sub-self g c =
     let counted = c.requires.asked.kept.counted in
     let least : c.is_empty-was_empty.result ≡ true → 1 ≤ c.args.self.now.empty = λ empty.
     let one =
-    count-some g.T.Table.plan.is_empty (map shown rows) c.args.place (shown was) (shown-at shown rows c.args.place was c.index_mut-row.ensures.value c.requires.place) (sym c.is_empty-was_empty.ensures ∙ empty) in
+    count-some g.T.Table.plan.is_empty (map shown rows) c.args.place (shown was) (placed-at shown (g.T.Table.plan.is_for (lent_call c.args.call.now)) rows c.args.place was c.requires.place c.index_mut-row.ensures.value) (sym c.is_empty-was_empty.ensures ∙ empty) in
     omega (arith, one, counted) in
     let before = c.from-then-is_done.ensures in
     let one = at_most c.is_empty-was_empty.result c.args.self.now.empty least in
@@ -126,7 +138,7 @@ returns g c =
     let plan = g.T.Table.plan in
     let rows = c.args.self.now.rows.items in
     let was = c.index_mut-row.result.now in
-    let at = shown-at shown rows c.args.place was c.index_mut-row.ensures.value c.requires.place in
+    let at = placed-at shown (g.T.Table.plan.is_for (lent_call c.args.call.now)) rows c.args.place was c.requires.place c.index_mut-row.ensures.value in
     record {
       session = refl;
       fixed = elim c.if-is_done.branch [ then-is_done+in-Ok-change w ↦ rw (w.self-is) w.in-Ok-change.ensures.fixed | else-is_done w ↦ rw (w.self-is) refl ];
