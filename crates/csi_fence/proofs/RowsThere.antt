@@ -1,8 +1,9 @@
 -- The call's row where it is found among rows, and among those that stay.
-use Rattle.std.proofs.Common.{◌≡◌, ◌<◌, ℕ, zero, suc, Bool, true, false, cond, not, List, [], ◌∷◌, map, length, get_or, refl, sym, ◌∙◌, ap, subst}
-use Rattle.std.specs.Prelude.{All, Some, None, option_map, find, filter, position, slice_get, nat_lt}
+use Rattle.std.proofs.Common.{◌≡◌, ◌<◌, ℕ, zero, suc, Bool, true, false, cond, not, List, [], ◌∷◌, map, length, get_or, refl, sym, ◌∙◌, ap, subst, arith}
+use Rattle.std.specs.Prelude.{All, Some, None, count_by, option_map, find, filter, position, slice_get, nat_lt}
 use Rattle.std.specs.List.{position_or_len}
 use Rattle.std.proofs.lemmas.Bool.{ltb-true}
+use Rattle.std.proofs.lemmas.List.{length-map}
 use Rattle.std.proofs.lemmas.List.Folds.{find_at}
 use Rattle.std.proofs.lemmas.Option.{same_Some, slice_get-get_or, slice_get-map, slice_get_read, slice_get_within}
 use Rattle.csi_types.specs.declared.number.Number.{Number}
@@ -12,6 +13,7 @@ use Rattle.csi_types.proofs.Searches.{find-none_in_filter, find-no_place}
 use Rattle.csi_fence.specs.Model.Fence.{begins}
 use Rattle.csi_fence.specs.Public.Rows.{staying}
 use Rattle.csi_fence.proofs.AnsweredRows.{staying-full}
+use Rattle.csi_fence.proofs.StayingRows.{count-some}
 
 -- something isn't nothing
 pub some_none : {X : Type 0} {A : Type 0} (x : X) → Some x ≡ None → A
@@ -43,9 +45,24 @@ absent-there p rows none = find-no_place p rows (sym none)
 pub shown-at : {R S : Type 0} (shown : R → S) (rows : List R) (place : ℕ) (row : R) → row ≡ get_or rows place row → place < length rows → slice_get (map shown rows) place ≡ Some (shown row)
 shown-at shown rows place row is inside = slice_get-map shown rows place ∙ ap (option_map shown) (slice_get_read rows (length rows) place row refl inside is)
 
+-- so is one that is read at the place that a search gives
+pub placed-at : {R S : Type 0} (shown : R → S) (p : S → Bool) (rows : List R) (place : ℕ) (row : R) → Some place ≡ position p (map shown rows) → row ≡ get_or rows place row → slice_get (map shown rows) place ≡ Some (shown row)
+placed-at shown p rows place row is read =
+    let inside = (found-there p (map shown rows) place is).1 in
+    let many = length-map rows shown in
+    shown-at shown rows place row read (omega (arith, inside, many))
+
 -- what is so of each is so of the row there
 pub all-at : {S : Type 0} (P : S → Type 0) (rows : List S) (place : ℕ) (row : S) → All P rows → slice_get rows place ≡ Some row → P row
 all-at P rows place row all at = let inside = slice_get_within rows place row at in subst P (same_Some (get_or rows place row) row (sym (slice_get-get_or rows place row inside) ∙ at)) (all place row inside)
+
+-- where none is empty, it isn't
+pub full-at : {S : Type 0} (is_empty : S → Bool) (rows : List S) (place : ℕ) (row : S) → count_by is_empty rows ≡ 0 → slice_get rows place ≡ Some row → is_empty row ≡ false
+full-at is_empty rows place row none at = by (is_empty row) refl
+  where
+    by : (b : Bool) → is_empty row ≡ b → b ≡ false
+    by true e = let one = count-some is_empty rows place row at e in absurd (omega (arith, one, none))
+    by false e = refl
 
 -- ---- among those that stay
 

@@ -1,6 +1,6 @@
 //! What a line of a table answers.
-ghost use Rattle.std.specs.Prelude.{◌≡◌, [], IfOk, IsOk};
-ghost use Rattle.csi_fence.specs.Public.Line.{told_by};
+ghost use Rattle.std.specs.Prelude.{◌≡◌};
+ghost use Rattle.csi_fence.specs.Public.Line.{told_by, GivesCopy};
 
 use crate::fault::CoreFault;
 use csi_types::{Detail, Reply, Status, VolumeId};
@@ -17,11 +17,10 @@ pub enum Line<'a> {
     Done,
 }
 
-// A detail of this text. An empty one takes no memory, and no bytes are copied for it.
+/// A detail of this text. An empty one takes no memory, and no bytes are copied for it.
 #[inline(always)]
-fn detail_of(alloc: Global, text: &str) -> Result<Detail, CoreFault>
-    ensures ok { IfOk result (λ detail. detail ≡ text.now) }
-    ensures succeeds { text.now ≡ [] → IsOk result }
+pub(crate) fn detail_of(alloc: Global, text: &str) -> Result<Detail, CoreFault>
+    ensures { GivesCopy text.now text.now result }
 {
     if text.is_empty() {
         return Ok(Detail::try_new(alloc, "").unwrap());
@@ -29,21 +28,6 @@ fn detail_of(alloc: Global, text: &str) -> Result<Detail, CoreFault>
     match Detail::try_new(alloc, text) {
         Ok(detail) => Ok(detail),
         Err(_) => Err(CoreFault::NoMemory),
-    }
-}
-
-/// A copy of a reply. Without a detail it takes no memory.
-pub(crate) fn copied(alloc: Global, reply: &Reply) -> Result<Reply, CoreFault>
-    ensures ok { IfOk result (λ copy. copy ≡ reply.now) }
-    ensures succeeds { reply.now.detail ≡ [] → IsOk result }
-{
-    match detail_of(alloc, reply.detail.as_str()) {
-        Ok(detail) => Ok(Reply {
-            status: reply.status,
-            id: reply.id,
-            detail,
-        }),
-        Err(fault) => Err(fault),
     }
 }
 
@@ -57,8 +41,7 @@ impl Line<'_> {
 
     /// As a reply. Without a detail it takes no memory.
     pub fn reply(&self, alloc: Global) -> Result<Reply, CoreFault>
-        ensures ok { IfOk result (λ reply. reply ≡ (told_by self.now).reply) }
-        ensures succeeds { (told_by self.now).reply.detail ≡ [] → IsOk result }
+        ensures { GivesCopy (told_by self.now).reply.detail (told_by self.now).reply result }
     {
         let (status, id, text) = match self {
             Line::Refused(status, text) => (*status, None, *text),

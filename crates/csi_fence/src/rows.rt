@@ -1,39 +1,18 @@
 //! Rows by id, behind the fence.
-ghost use Rattle.std.specs.Prelude.{◌≡◌, ◌≤◌, ◌<◌, ◌==◌, not, nat_lt, if◌then◌else◌, Some, None, true, false, map, filter, find, count_by, position, length, slice_get, vec_capacity, IfOk, IfSome, IsOk, IsTrue, OnErr};
-ghost use Rattle.csi_types.specs.declared.status.Status.TheVariants.{Ok as OkStatus};
-ghost use Rattle.csi_types.specs.Model.Call.{kind_of};
-ghost use Rattle.csi_types.specs.Public.Call.{is_party_of};
+ghost use Rattle.std.specs.Prelude.{◌≡◌, ◌≤◌, ◌<◌, ◌==◌, Some, None, true, false, map, find, count_by, position, length, slice_get, vec_capacity};
 ghost use Rattle.csi_types.specs.Public.Lent.{lent_call};
-ghost use Rattle.csi_fence.specs.declared.fence.Verdict.TheVariants.{Fresh};
-ghost use Rattle.csi_fence.specs.Model.Fence.{verdict_of};
-ghost use Rattle.csi_fence.specs.Private.Rows.{IsCarriedAt, IsRecounted};
+ghost use Rattle.csi_fence.specs.Private.Rows.{HaveForgotten, IsAskedInTime, IsCarriedOutAt, CanForget};
 ghost use Rattle.csi_fence.specs.Public.Raised.{raised_rows};
-ghost use Rattle.csi_fence.specs.Public.Rows.{AreKept, AreRising, Answers, put_row, rows_shown, staying, stays_in};
+ghost use Rattle.csi_fence.specs.Public.Rows.{AreKept, AreRising, HaveAnswered, IsAskedOf, put_row, rows_shown, staying};
 
 use crate::answer::Answer;
 use crate::fault::CoreFault;
 use crate::fence::{Verdict, verdict_of};
-use crate::line::copied;
 use crate::places::place_of;
 use crate::table::{Absent, Table};
 use crate::verdicts::{repeated, stale};
 use csi_types::{CallRef, Number, Reply};
 use std::alloc::Global;
-
-// How many rows are empty once one of them was and is so.
-fn recounted(empty: usize, was_empty: bool, is_empty: bool) -> usize
-    requires was { was_empty ≡ true → 1 ≤ empty }
-    requires few { empty ≤ 4096 }
-    ensures { IsRecounted empty was_empty is_empty result }
-{
-    if was_empty && !is_empty {
-        empty - 1
-    } else if is_empty && !was_empty {
-        empty + 1
-    } else {
-        empty
-    }
-}
 
 /// A plugin's rows by rising id, and its table: they answer a call behind the fence (this profile's own).
 pub struct Rows<T: Table> {
@@ -81,22 +60,14 @@ impl<T: Table> Rows<T> {
         }
     }
 
-    // So many empty rows are forgotten, where this session has begun. It takes no memory.
+    // So many empty rows are forgotten, where the session has begun. It takes no memory.
     #[inline(never)]
-    fn forget(&mut self, session: u64, forgettable: usize)
-        requires rising { AreRising T.plan.id (map T.shown self.old.rows.items) }
-        requires agrees { T.agrees self.old.table (map T.shown self.old.rows.items) }
-        requires forgettable { forgettable ≡ count_by (λ row. not (stays_in T.plan session row)) (map T.shown self.old.rows.items) }
-        requires empty { self.old.empty ≡ count_by T.plan.is_empty (map T.shown self.old.rows.items) }
-        ensures session { self.new.session ≡ self.old.session }
-        ensures rows { map T.shown self.new.rows.items ≡ filter (stays_in T.plan session) (map T.shown self.old.rows.items) }
-        ensures room { length self.old.rows.items < vec_capacity self.old.rows → length self.new.rows.items < vec_capacity self.new.rows }
-        ensures empty { self.new.empty ≡ count_by T.plan.is_empty (map T.shown self.new.rows.items) }
-        ensures fixed { T.fixed self.new.table ≡ T.fixed self.old.table }
-        ensures own { T.own self.new.table ≡ T.own self.old.table }
-        ensures agrees { T.agrees self.new.table (map T.shown self.new.rows.items) }
-        ensures has_room { (room : T.Room) (row : T.Shown) → T.has_room self.old.table room row → T.has_room self.new.table room row }
+    fn forget(&mut self, forgettable: usize)
+        requires { CanForget T.plan (T.agrees self.old.table) (map T.shown self.old.rows.items) self.old.session forgettable self.old.empty }
+        ensures { HaveForgotten T.plan T.fixed T.own T.shown T.agrees T.has_room self.old.session self.new.session self.old.table self.new.table self.old.rows
+            self.new.rows self.new.empty }
     {
+        let session = self.session;
         self.table.leave(self.rows.as_slice(), session);
         self.rows
             .retain(|row| !T::is_empty(row) || T::last(row).session == session);
@@ -106,24 +77,15 @@ impl<T: Table> Rows<T> {
     // The session begins, or goes on, and so many empty rows are forgotten. It takes no memory.
     #[inline(always)]
     fn begin(&mut self, session: u64, forgettable: usize)
-        requires rising { AreRising T.plan.id (map T.shown self.old.rows.items) }
-        requires agrees { T.agrees self.old.table (map T.shown self.old.rows.items) }
-        requires forgettable { forgettable ≡ count_by (λ row. not (stays_in T.plan session row)) (map T.shown self.old.rows.items) }
-        requires empty { self.old.empty ≡ count_by T.plan.is_empty (map T.shown self.old.rows.items) }
-        ensures session { self.new.session ≡ session }
-        ensures rows { map T.shown self.new.rows.items ≡ filter (stays_in T.plan session) (map T.shown self.old.rows.items) }
-        ensures room { length self.old.rows.items < vec_capacity self.old.rows → length self.new.rows.items < vec_capacity self.new.rows }
-        ensures empty { self.new.empty ≡ count_by T.plan.is_empty (map T.shown self.new.rows.items) }
-        ensures fixed { T.fixed self.new.table ≡ T.fixed self.old.table }
-        ensures own { T.own self.new.table ≡ T.own self.old.table }
-        ensures agrees { T.agrees self.new.table (map T.shown self.new.rows.items) }
-        ensures has_room { (room : T.Room) (row : T.Shown) → T.has_room self.old.table room row → T.has_room self.new.table room row }
+        requires { CanForget T.plan (T.agrees self.old.table) (map T.shown self.old.rows.items) session forgettable self.old.empty }
+        ensures { HaveForgotten T.plan T.fixed T.own T.shown T.agrees T.has_room session self.new.session self.old.table self.new.table self.old.rows
+            self.new.rows self.new.empty }
     {
         self.session = session;
         if forgettable == 0 {
             return;
         }
-        self.forget(session, forgettable);
+        self.forget(forgettable);
     }
 
     // Puts in a row of a new id, for which there is room, and says where. It takes no memory.
@@ -147,38 +109,19 @@ impl<T: Table> Rows<T> {
         place
     }
 
-    // How many rows are forgotten by a call of this number.
-    fn forgettable(&self, number: Number) -> usize
-        ensures { result ≡ (if nat_lt self.now.session number.session then self.now.empty else 0) }
-    {
-        if self.session < number.session {
-            self.empty
-        } else {
-            0
-        }
-    }
-
-    // Carries out a call at the row at this place, and counts anew how many are empty. An `Err` changes nothing.
+    // Carries out a call at its row, which is at this place, and counts anew how many are empty. An `Err` changes nothing.
     fn carry_out_at(
         &mut self,
         place: usize,
         number: Number,
         call: &CallRef<'_>,
     ) -> Result<Reply, CoreFault>
-        requires party { IsTrue (is_party_of (kind_of (lent_call call.now)) (T.plan.party (T.fixed self.old.table))) }
-        requires kept { AreKept T.plan T.is_sound (T.agrees self.old.table) (rows_shown T.own T.shown self.old.table self.old.session self.old.rows.items) self.old.empty }
-        requires place { place < length self.old.rows.items }
-        requires is_own { (row : T.Shown) → slice_get (map T.shown self.old.rows.items) place ≡ Some row → T.plan.is_for (lent_call call.now) row ≡ true }
-        ensures session { self.new.session ≡ self.old.session }
-        ensures fixed { T.fixed self.new.table ≡ T.fixed self.old.table }
-        ensures own { T.own self.new.table ≡ T.own self.old.table }
-        ensures ok { (row : T.Shown) → slice_get (map T.shown self.old.rows.items) place ≡ Some row → IfOk result (IsCarriedAt T.plan (T.is_sound (T.own self.old.table)) number (lent_call call.now)
-            (T.plan.line (T.fixed self.old.table) (map T.shown self.old.rows.items) row (lent_call call.now)) row place (map T.shown self.old.rows.items) (map T.shown self.new.rows.items)) }
-        ensures empty { self.new.empty ≡ count_by T.plan.is_empty (map T.shown self.new.rows.items) }
-        ensures agrees { T.agrees self.new.table (map T.shown self.new.rows.items) }
-        ensures err { OnErr result (map T.shown self.new.rows.items ≡ map T.shown self.old.rows.items) }
-        ensures frugal { (row : T.Shown) → slice_get (map T.shown self.old.rows.items) place ≡ Some row → T.is_frugal (lent_call call.now) →
-            (T.plan.line (T.fixed self.old.table) (map T.shown self.old.rows.items) row (lent_call call.now)).reply.status ≡ OkStatus → IsOk result }
+        requires asked { IsAskedOf T.plan T.is_sound (T.fixed self.old.table) (lent_call call.now) (rows_shown T.own T.shown self.old.table self.old.session self.old.rows.items)
+            (T.agrees self.old.table) self.old.empty }
+        requires place { Some place ≡ position (T.plan.is_for (lent_call call.now)) (map T.shown self.old.rows.items) }
+        ensures { IsCarriedOutAt T.plan T.is_sound T.is_frugal (T.fixed self.old.table) (T.fixed self.new.table) number (lent_call call.now) place
+            (rows_shown T.own T.shown self.old.table self.old.session self.old.rows.items)
+            (rows_shown T.own T.shown self.new.table self.new.session self.new.rows.items) (T.agrees self.new.table) self.new.empty result }
     {
         let row = &mut self.rows[place];
         let line = self.table.line(row, call);
@@ -187,7 +130,7 @@ impl<T: Table> Rows<T> {
             Ok(reply) => reply,
             Err(fault) => return Err(fault),
         };
-        let reply = match copied(self.alloc, &kept) {
+        let reply = match line.reply(self.alloc) {
             Ok(reply) => reply,
             Err(fault) => return Err(fault),
         };
@@ -197,93 +140,71 @@ impl<T: Table> Rows<T> {
                 Ok(()) => (),
                 Err(fault) => return Err(fault),
             }
-            self.empty = recounted(self.empty, was_empty, T::is_empty(row));
+            self.empty = self.empty + usize::from(T::is_empty(row)) - usize::from(was_empty);
         }
         T::keep(row, number, call.kind(), kept);
         Ok(reply)
     }
 
-    // Answers a call that the fence lets through to the row at this place; where it begins a session, the row isn't empty. An `Err` changes
-    // nothing.
-    fn answer_fresh(
-        &mut self,
-        place: usize,
-        number: Number,
-        call: &CallRef<'_>,
-    ) -> Result<Answer, CoreFault>
-        requires party { IsTrue (is_party_of (kind_of (lent_call call.now)) (T.plan.party (T.fixed self.old.table))) }
-        requires kept { AreKept T.plan T.is_sound (T.agrees self.old.table) (rows_shown T.own T.shown self.old.table self.old.session self.old.rows.items) self.old.empty }
-        requires not_over { self.old.session ≤ number.session }
-        requires place { place < length self.old.rows.items }
-        requires found { (row : T.Shown) → slice_get (map T.shown self.old.rows.items) place ≡ Some row →
-            find (T.plan.is_for (lent_call call.now)) (staying T.plan.is_empty self.old.session number (map T.shown self.old.rows.items)) ≡ Some row }
-        requires fresh { (row : T.Shown) → slice_get (map T.shown self.old.rows.items) place ≡ Some row → verdict_of (Some (T.plan.kept row).number) number ≡ Fresh }
-        requires full { (row : T.Shown) → self.old.session < number.session → slice_get (map T.shown self.old.rows.items) place ≡ Some row →
-            T.plan.is_empty row ≡ false }
-        ensures answers { Answers T.plan T.is_sound T.is_frugal (T.fixed self.old.table) number (lent_call call.now)
-            (rows_shown T.own T.shown self.old.table self.old.session self.old.rows.items)
-            (rows_shown T.own T.shown self.new.table self.new.session self.new.rows.items) (T.agrees self.new.table) self.new.empty result }
-        ensures fixed { T.fixed self.new.table ≡ T.fixed self.old.table }
-    {
-        let id = T::id(&self.rows[place]);
-        let forgettable = self.forgettable(number);
-        match self.carry_out_at(place, number, call) {
-            Ok(reply) => {
-                self.begin(number.session, forgettable);
-                let row = if forgettable == 0 {
-                    Some(place)
-                } else {
-                    place_of::<T>(self.rows.as_slice(), id).ok()
-                };
-                Ok(Answer {
-                    kind: call.kind(),
-                    reply,
-                    row,
-                })
-            }
-            Err(fault) => Err(fault),
-        }
-    }
-
-    // Answers a call of the row at this place, behind the fence; where the call begins a session, the row isn't empty. An `Err` changes
-    // nothing.
+    // Answers a call of the row at this place, by which so many rows are forgotten, behind the fence; where the call begins a session, the
+    // row isn't empty. An `Err` changes nothing.
     fn answer_at_row(
         &mut self,
         place: usize,
         number: Number,
+        forgettable: usize,
         call: &CallRef<'_>,
     ) -> Result<Answer, CoreFault>
-        requires party { IsTrue (is_party_of (kind_of (lent_call call.now)) (T.plan.party (T.fixed self.old.table))) }
-        requires kept { AreKept T.plan T.is_sound (T.agrees self.old.table) (rows_shown T.own T.shown self.old.table self.old.session self.old.rows.items) self.old.empty }
-        requires not_over { self.old.session ≤ number.session }
+        requires in_time { IsAskedInTime T.plan T.is_sound (T.fixed self.old.table) number (lent_call call.now)
+            (rows_shown T.own T.shown self.old.table self.old.session self.old.rows.items) (T.agrees self.old.table) self.old.empty forgettable }
         requires place { Some place ≡ position (T.plan.is_for (lent_call call.now)) (map T.shown self.old.rows.items) }
         requires full { (row : T.Shown) → self.old.session < number.session → slice_get (map T.shown self.old.rows.items) place ≡ Some row →
             T.plan.is_empty row ≡ false }
-        ensures answers { Answers T.plan T.is_sound T.is_frugal (T.fixed self.old.table) number (lent_call call.now)
+        ensures { HaveAnswered T.plan T.is_sound T.is_frugal (T.fixed self.old.table) (T.fixed self.new.table) number (lent_call call.now)
             (rows_shown T.own T.shown self.old.table self.old.session self.old.rows.items)
             (rows_shown T.own T.shown self.new.table self.new.session self.new.rows.items) (T.agrees self.new.table) self.new.empty result }
-        ensures fixed { T.fixed self.new.table ≡ T.fixed self.old.table }
     {
         let row = &self.rows[place];
         match verdict_of(Some(T::last(row)), number) {
             Verdict::Stale => stale(self.alloc, call.kind()),
             Verdict::Repeated => repeated::<T>(self.alloc, row),
-            Verdict::Fresh => self.answer_fresh(place, number, call),
+            Verdict::Fresh => {
+                let id = T::id(row);
+                match self.carry_out_at(place, number, call) {
+                    Ok(reply) => {
+                        self.begin(number.session, forgettable);
+                        let row = if forgettable == 0 {
+                            Some(place)
+                        } else {
+                            place_of::<T>(self.rows.as_slice(), id).ok()
+                        };
+                        Ok(Answer {
+                            kind: call.kind(),
+                            reply,
+                            row,
+                        })
+                    }
+                    Err(fault) => Err(fault),
+                }
+            }
         }
     }
 
-    // Answers a call that has no row, none that isn't empty where it begins a session. An `Err` changes nothing.
-    fn answer_absent(&mut self, number: Number, call: &CallRef<'_>) -> Result<Answer, CoreFault>
-        requires party { IsTrue (is_party_of (kind_of (lent_call call.now)) (T.plan.party (T.fixed self.old.table))) }
-        requires kept { AreKept T.plan T.is_sound (T.agrees self.old.table) (rows_shown T.own T.shown self.old.table self.old.session self.old.rows.items) self.old.empty }
-        requires not_over { self.old.session ≤ number.session }
+    // Answers a call that has no row, none that isn't empty where it begins a session, and by which so many are forgotten. An `Err` changes
+    // nothing.
+    fn answer_absent(
+        &mut self,
+        number: Number,
+        forgettable: usize,
+        call: &CallRef<'_>,
+    ) -> Result<Answer, CoreFault>
+        requires in_time { IsAskedInTime T.plan T.is_sound (T.fixed self.old.table) number (lent_call call.now)
+            (rows_shown T.own T.shown self.old.table self.old.session self.old.rows.items) (T.agrees self.old.table) self.old.empty forgettable }
         requires none { find (T.plan.is_for (lent_call call.now)) (staying T.plan.is_empty self.old.session number (map T.shown self.old.rows.items)) ≡ None }
-        ensures answers { Answers T.plan T.is_sound T.is_frugal (T.fixed self.old.table) number (lent_call call.now)
+        ensures { HaveAnswered T.plan T.is_sound T.is_frugal (T.fixed self.old.table) (T.fixed self.new.table) number (lent_call call.now)
             (rows_shown T.own T.shown self.old.table self.old.session self.old.rows.items)
             (rows_shown T.own T.shown self.new.table self.new.session self.new.rows.items) (T.agrees self.new.table) self.new.empty result }
-        ensures fixed { T.fixed self.new.table ≡ T.fixed self.old.table }
     {
-        let forgettable = self.forgettable(number);
         let count = self.rows.len() - forgettable;
         match self.table.absent(count, self.alloc, number, call)? {
             Absent::Answered(reply) => {
@@ -308,45 +229,32 @@ impl<T: Table> Rows<T> {
         }
     }
 
-    // Where the row of the call is, unless it is forgotten by the call's session.
-    fn place_for(&self, number: Number, call: &CallRef<'_>) -> Option<usize>
-        requires kept { AreKept T.plan T.is_sound (T.agrees self.now.table) (rows_shown T.own T.shown self.now.table self.now.session self.now.rows.items) self.now.empty }
-        ensures place { IfSome result (λ place. Some place ≡ position (T.plan.is_for (lent_call call.now)) (map T.shown self.now.rows.items)) }
-        ensures full { IfSome result (λ place. (row : T.Shown) → self.now.session < number.session →
-            slice_get (map T.shown self.now.rows.items) place ≡ Some row → T.plan.is_empty row ≡ false) }
-        ensures none { result ≡ None → find (T.plan.is_for (lent_call call.now))
-            (staying T.plan.is_empty self.now.session number (map T.shown self.now.rows.items)) ≡ None }
-    {
-        match self.table.find(self.rows.as_slice(), call) {
-            Some(place) => {
-                if self.session < number.session && T::is_empty(&self.rows[place]) {
-                    None
-                } else {
-                    Some(place)
-                }
-            }
-            None => None,
-        }
-    }
-
     /// Answers a call of the plugin by the fence and the table: one of an earlier session than the greatest that came is stale, and one of a
     /// later session begins it, so that empty rows are forgotten. An `Err`, an allocation that was refused, changes nothing.
     pub fn answer(&mut self, number: Number, call: &CallRef<'_>) -> Result<Answer, CoreFault>
-        requires party { IsTrue (is_party_of (kind_of (lent_call call.now)) (T.plan.party (T.fixed self.old.table))) }
-        requires kept { AreKept T.plan T.is_sound (T.agrees self.old.table) (rows_shown T.own T.shown self.old.table self.old.session self.old.rows.items) self.old.empty }
-        ensures answers { Answers T.plan T.is_sound T.is_frugal (T.fixed self.old.table) number (lent_call call.now)
+        requires { IsAskedOf T.plan T.is_sound (T.fixed self.old.table) (lent_call call.now) (rows_shown T.own T.shown self.old.table self.old.session self.old.rows.items)
+            (T.agrees self.old.table) self.old.empty }
+        ensures { HaveAnswered T.plan T.is_sound T.is_frugal (T.fixed self.old.table) (T.fixed self.new.table) number (lent_call call.now)
             (rows_shown T.own T.shown self.old.table self.old.session self.old.rows.items)
             (rows_shown T.own T.shown self.new.table self.new.session self.new.rows.items) (T.agrees self.new.table) self.new.empty result }
-        ensures fixed { T.fixed self.new.table ≡ T.fixed self.old.table }
     {
         if number.session < self.session {
             return stale(self.alloc, call.kind());
         }
-        match self.place_for(number, call) {
-            Some(place) => self.answer_at_row(place, number, call),
-            None => self.answer_absent(number, call),
+        // Where none is forgotten every row stays.
+        let forgettable = if self.session < number.session {
+            self.empty
+        } else {
+            0
+        };
+        match self.table.find(self.rows.as_slice(), call) {
+            Some(place) if forgettable == 0 || !T::is_empty(&self.rows[place]) => {
+                self.answer_at_row(place, number, forgettable, call)
+            }
+            _ => self.answer_absent(number, forgettable, call),
         }
     }
+
     /// This session begins, where it is later than the greatest that came, as if a call had begun it: empty rows are forgotten. It takes
     /// no memory.
     pub fn raise(&mut self, session: u64)

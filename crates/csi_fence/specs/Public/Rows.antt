@@ -1,6 +1,6 @@
 -- Rows by id behind the fence, with a table that says what a call does with its row. Both plugins keep their rows so. This profile's
 -- own.
-use Rattle.std.specs.Prelude.{◌≡◌, ◌≢◌, ℕ, ◌<◌, ◌≤◌, ◌==◌, ◌||◌, nat_lt, List, [], ◌∷◌, filter, find, length, slice_get, map, count_by, All, Bool, true, not, Option, Some, None, option_map, if◌then◌else◌, Result, IfOk, OnErr, IsOk}
+use Rattle.std.specs.Prelude.{◌≡◌, ◌≢◌, ℕ, ◌<◌, ◌≤◌, ◌==◌, ◌||◌, nat_lt, List, [], ◌∷◌, filter, find, length, slice_get, map, count_by, All, Bool, true, not, Option, Some, None, option_map, if◌then◌else◌, Result, IfOk, OnErr, IsOk, IsTrue}
 use Rattle.csi_types.specs.declared.rows.TheConstants.{MAX_ROWS}
 use Rattle.csi_types.specs.declared.number.Number.{Number}
 use Rattle.csi_types.specs.declared.call.Call.{Call}
@@ -10,6 +10,7 @@ use Rattle.csi_types.specs.declared.reply.Reply.{Reply}
 use Rattle.csi_types.specs.declared.status.Status.TheVariants.{Ok}
 use Rattle.csi_types.specs.Model.Call.{kind_of}
 use Rattle.csi_types.specs.Model.Replies.{reply_frame}
+use Rattle.csi_types.specs.Public.Call.{is_party_of}
 use Rattle.csi_types.specs.Public.Frame.{IsAllowed}
 use Rattle.csi_fence.specs.declared.answer.Answer.{Answer}
 use Rattle.csi_fence.specs.declared.fault.CoreFault.{CoreFault}
@@ -195,3 +196,13 @@ pub record Answers {Fixed Own S : Type 0} (plan : Plan Fixed Own S) (is_sound : 
   pub repeated : IsPlainRepeat old.session ((rows_machine plan fixed).kept_for call old) number → IsOk result
   pub frugal : is_frugal call → IsLetThrough (rows_machine plan fixed) old number call
       → (carried plan fixed (in_session (rows_machine plan fixed) number old) number call).reply.status ≡ Ok → IsOk result
+
+-- a call of their plugin is asked of rows that keep the rules
+pub record IsAskedOf {Fixed Own S : Type 0} (plan : Plan Fixed Own S) (is_sound : Own → S → Type 0) (fixed : Fixed) (call : Call) (state : RowsState Own S) (agrees : List S → Type 0) (empty : ℕ) : Type 0 where
+  pub party : IsTrue (is_party_of (kind_of call) (plan.party fixed))
+  pub kept : AreKept plan is_sound agrees state empty
+
+-- they answered it, and what never changes of the plugin is as it was
+pub record HaveAnswered {Fixed Own S : Type 0} (plan : Plan Fixed Own S) (is_sound : Own → S → Type 0) (is_frugal : Call → Type 0) (was is : Fixed) (number : Number) (call : Call) (old new : RowsState Own S) (agrees : List S → Type 0) (empty : ℕ) (result : Result Answer CoreFault) : Type 0 where
+  pub answers : Answers plan is_sound is_frugal was number call old new agrees empty result
+  pub fixed : is ≡ was

@@ -5,12 +5,17 @@ use Rattle.csi_fence.specs.Public.Rows.{rows_shown}
 use Rattle.csi_fence.proofs.RaisedRows.{raised-gone, raised-kept, raised-so}
 use Rattle.csi_fence.proofs.rows.Rows.raise.Goals as goal
 
-pub begin-requires-clause-forgettable : goal.begin-requires-clause-forgettable
-begin-requires-clause-forgettable g c =
+pub begin-requires : goal.begin-requires
+begin-requires g c =
     let t = g.T.Table in
     let old = rows_shown t.own t.shown c.args.self.now.table c.args.self.now.session c.args.self.now.rows.items in
     let later : c.args.self.now.session < c.args.session = let e = c.if-session-self.false in grind (arith, nat_tests) in
-    raised-gone t.plan t.is_sound (t.agrees c.args.self.now.table) old c.args.self.now.empty c.requires.kept c.args.session later
+    record {
+      rising = c.requires.kept.rising;
+      agrees = c.requires.kept.fits;
+      forgettable = raised-gone t.plan t.is_sound (t.agrees c.args.self.now.table) old c.args.self.now.empty c.requires.kept c.args.session later;
+      empty = c.requires.kept.counted;
+    }
 
 pub returns-clause-raised : goal.returns-clause-raised
 returns-clause-raised g c =
