@@ -1,7 +1,7 @@
 //! Readers and writers whose failures are counted.
 ghost use Rattle.std.specs.Prelude.{◌≡◌, OnOk};
 ghost use Rattle.std.specs.Io.KnownBytes.{Keeps, Appends, Consumes};
-ghost use Rattle.csi_stores.specs.Public.Counting.{is_error, is_write_fault, Counts, ReadsCounted};
+ghost use Rattle.csi_stores.specs.Public.Counting.{is_error, is_write_fault, CountsCall, ReadsCounted};
 ghost use Rattle.csi_stores.specs.Public.Writing.{TakesBytes};
 
 use std::io;
@@ -42,8 +42,7 @@ impl<T> Counted<T> {
 
     // Counts a call that failed.
     fn count(&mut self, fault: bool)
-        ensures counts { Counts fault self.old.faults self.new.faults }
-        ensures inner { self.new.inner ≡ self.old.inner }
+        ensures { CountsCall (self.new.inner ≡ self.old.inner) fault self.old.faults self.new.faults }
     {
         if fault && self.faults < u64::MAX {
             self.faults += 1;
@@ -63,8 +62,8 @@ impl<R: Read> Read for Counted<R> {
     }
 
     fn read_exact(&mut self, buf: &mut [u8]) -> io::Result<()>
-        ensures bytes { OnOk result (Consumes (R.remaining self.old.inner) (R.remaining self.new.inner) buf.new) }
-        ensures counts { Counts (is_error result) self.old.faults self.new.faults }
+        ensures { CountsCall (OnOk result (Consumes (R.remaining self.old.inner) (R.remaining self.new.inner) buf.new))
+            (is_error result) self.old.faults self.new.faults }
     {
         let result = self.inner.read_exact(buf);
         self.count(result.is_err());
@@ -76,8 +75,8 @@ impl<W: Write> Write for Counted<W> {
     ghost contents = { λ counted. W.contents counted.inner };
 
     fn write(&mut self, buf: &[u8]) -> io::Result<usize>
-        ensures takes { TakesBytes (W.contents self.old.inner) (W.contents self.new.inner) result buf.now }
-        ensures counts { Counts (is_write_fault buf.now result) self.old.faults self.new.faults }
+        ensures { CountsCall (TakesBytes (W.contents self.old.inner) (W.contents self.new.inner) result buf.now)
+            (is_write_fault buf.now result) self.old.faults self.new.faults }
     {
         let result = self.inner.write(buf);
         let fault = match &result {
@@ -89,8 +88,7 @@ impl<W: Write> Write for Counted<W> {
     }
 
     fn flush(&mut self) -> io::Result<()>
-        ensures bytes { Keeps (W.contents self.old.inner) (W.contents self.new.inner) }
-        ensures counts { Counts (is_error result) self.old.faults self.new.faults }
+        ensures { CountsCall (Keeps (W.contents self.old.inner) (W.contents self.new.inner)) (is_error result) self.old.faults self.new.faults }
     {
         let result = self.inner.flush();
         self.count(result.is_err());
@@ -98,8 +96,8 @@ impl<W: Write> Write for Counted<W> {
     }
 
     fn write_all(&mut self, buf: &[u8]) -> io::Result<()>
-        ensures bytes { OnOk result (Appends (W.contents self.old.inner) (W.contents self.new.inner) buf.now) }
-        ensures counts { Counts (is_error result) self.old.faults self.new.faults }
+        ensures { CountsCall (OnOk result (Appends (W.contents self.old.inner) (W.contents self.new.inner) buf.now))
+            (is_error result) self.old.faults self.new.faults }
     {
         let result = self.inner.write_all(buf);
         self.count(result.is_err());

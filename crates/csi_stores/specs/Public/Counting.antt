@@ -25,8 +25,9 @@ is_write_fault bytes (Err e) = true
 abbrev pub fault_count_after : Bool → ℕ → ℕ
 fault_count_after fault count = if fault then one_more count else count
 
--- what a call does to the count, by whether it failed
-pub record Counts (fault : Bool) (before after : ℕ) : Type 0 where
+-- a call does this with the bytes, and is counted where it failed
+pub record CountsCall (does : Type 0) (fault : Bool) (before after : ℕ) : Type 0 where
+  pub bytes : does
   pub faults : after ≡ fault_count_after fault before
   pub rises : before ≤ after
   pub risen : fault ≡ true → HasRisen before after
