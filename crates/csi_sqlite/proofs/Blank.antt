@@ -1,5 +1,5 @@
 -- A file that held nothing, opened: nothing is listed.
-use Rattle.std.proofs.Common.{◌≡◌, ◌∙◌, inl, inr, sym, ap, subst, List, [], length, arith}
+use Rattle.std.proofs.Common.{◌≡◌, inl, inr, sym, ap, subst, [], length, arith}
 use Rattle.sqlite_trees.specs.Objects.{catalog_tree}
 use Rattle.sqlite_wal.specs.Recovery.{Image}
 use Rattle.sqlite_catalog.specs.Listing.{IsSound}

@@ -5,6 +5,7 @@ pub mod Statements
 pub mod Loading
 pub mod Refusals
 pub mod Tables
+pub mod Running
 pub mod Closing
 pub mod Kept
 pub mod Opening

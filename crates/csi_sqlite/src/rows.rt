@@ -7,6 +7,7 @@ ghost use Rattle.sqlite.specs.Order.{Row as Cells};
 ghost use Rattle.csi_sqlite.specs.Public.Declared.{parts_schema};
 ghost use Rattle.csi_sqlite.specs.Public.Rows.{KeyedRow, cells, without, AreRising, AreByKey, StoresRows, HasColumns, HasRows, IsAtRest, IsBlank, IsInputError};
 ghost use Rattle.csi_sqlite.specs.Public.Listed.{ListsOther};
+ghost use Rattle.csi_sqlite.specs.Public.Running.{RunsInside};
 ghost use Rattle.csi_sqlite.specs.Private.Changing.{changed_rows, ChangesOrNot};
 ghost use Rattle.csi_sqlite.specs.Public.Statements.{RefusesToMake, GivesRows, RefusesToRead, Inserts, PutsRow, RefusesToChange, RefusesToInsert, RefusesToPut, RemovesRow, RefusesToRemove};
 
@@ -89,14 +90,10 @@ fn change_row<S: Alter>(
     key: &[u8],
     value: &[u8],
 ) -> Result<bool, Error>
-    ensures same_reference { transaction.new.conn.ghost_name ≡ transaction.old.conn.ghost_name }
-    ensures changed { HasCleanDisk (state S.Store transaction.new.conn.now) → (rows : List KeyedRow) → HasRows (state S.Store transaction.old.conn.now) rows
-        → IfOk result (λ there. HasRows (state S.Store transaction.new.conn.now) (changed_rows there key.now value.now rows)) }
-    ensures ran { HasCleanDisk (state S.Store transaction.new.conn.now) → IsTrue (state S.Store transaction.old.conn.now).in_transaction
-        → IfOk result (λ there. ChangesOrNot there key.now value.now (state S.Store transaction.old.conn.now) (state S.Store transaction.new.conn.now)) }
-    ensures refused { HasCleanDisk (state S.Store transaction.new.conn.now) → IsTrue (state S.Store transaction.old.conn.now).in_transaction →
-        IfErr result (RefusesToChange key.now value.now (state S.Store transaction.old.conn.now) (state S.Store transaction.new.conn.now)) }
-    ensures survives { Survives (state S.Store transaction.old.conn.now) (state S.Store transaction.new.conn.now) (λ _. ⊥) }
+    ensures { RunsInside S.Store HasRows (λ there. changed_rows there key.now value.now)
+        (λ there before after. ChangesOrNot there key.now value.now (state S.Store before) (state S.Store after))
+        (λ before after. RefusesToChange key.now value.now (state S.Store before) (state S.Store after))
+        transaction.old.conn transaction.new.conn result }
 {
     let count = transaction.execute(
         "UPDATE parts SET value = ?2 WHERE key = ?1",
@@ -111,14 +108,10 @@ fn insert_row<S: Alter>(
     key: &[u8],
     value: &[u8],
 ) -> Result<(), Error>
-    ensures same_reference { transaction.new.conn.ghost_name ≡ transaction.old.conn.ghost_name }
-    ensures inserted { HasCleanDisk (state S.Store transaction.new.conn.now) → (rows : List KeyedRow) → HasRows (state S.Store transaction.old.conn.now) rows
-        → OnOk result (HasRows (state S.Store transaction.new.conn.now) ((record { key = key.now; value = value.now }) ∷ rows)) }
-    ensures ran { HasCleanDisk (state S.Store transaction.new.conn.now) → IsTrue (state S.Store transaction.old.conn.now).in_transaction →
-        OnOk result (Inserts key.now value.now (state S.Store transaction.old.conn.now) (state S.Store transaction.new.conn.now)) }
-    ensures refused { HasCleanDisk (state S.Store transaction.new.conn.now) → IsTrue (state S.Store transaction.old.conn.now).in_transaction →
-        IfErr result (RefusesToInsert key.now value.now (state S.Store transaction.old.conn.now) (state S.Store transaction.new.conn.now)) }
-    ensures survives { Survives (state S.Store transaction.old.conn.now) (state S.Store transaction.new.conn.now) (λ _. ⊥) }
+    ensures { RunsInside S.Store HasRows (λ _ rows. (record { key = key.now; value = value.now }) ∷ rows)
+        (λ _ before after. Inserts key.now value.now (state S.Store before) (state S.Store after))
+        (λ before after. RefusesToInsert key.now value.now (state S.Store before) (state S.Store after))
+        transaction.old.conn transaction.new.conn result }
 {
     transaction.execute(
         "INSERT INTO parts (key, value) VALUES (?1, ?2)",
@@ -133,14 +126,10 @@ pub fn put_row<S: Alter>(
     key: &[u8],
     value: &[u8],
 ) -> Result<(), Error>
-    ensures same_reference { transaction.new.conn.ghost_name ≡ transaction.old.conn.ghost_name }
-    ensures put { HasCleanDisk (state S.Store transaction.new.conn.now) → (rows : List KeyedRow) → HasRows (state S.Store transaction.old.conn.now) rows
-        → OnOk result (HasRows (state S.Store transaction.new.conn.now) ((record { key = key.now; value = value.now }) ∷ without key.now rows)) }
-    ensures ran { HasCleanDisk (state S.Store transaction.new.conn.now) → IsTrue (state S.Store transaction.old.conn.now).in_transaction →
-        OnOk result (PutsRow S.Store key.now value.now transaction.old.conn.now transaction.new.conn.now) }
-    ensures refused { HasCleanDisk (state S.Store transaction.new.conn.now) → IsTrue (state S.Store transaction.old.conn.now).in_transaction →
-        IfErr result (RefusesToPut S.Store key.now value.now transaction.old.conn.now transaction.new.conn.now) }
-    ensures survives { Survives (state S.Store transaction.old.conn.now) (state S.Store transaction.new.conn.now) (λ _. ⊥) }
+    ensures { RunsInside S.Store HasRows (λ _ rows. (record { key = key.now; value = value.now }) ∷ without key.now rows)
+        (λ _. PutsRow S.Store key.now value.now)
+        (RefusesToPut S.Store key.now value.now)
+        transaction.old.conn transaction.new.conn result }
 {
     if change_row(transaction, key, value)? {
         return Ok(());
@@ -150,14 +139,10 @@ pub fn put_row<S: Alter>(
 
 /// Takes out the row of a key, if there is one. An error is SQLite's own at the statement.
 pub fn remove_row<S: Alter>(transaction: &mut Transaction<'_, S>, key: &[u8]) -> Result<(), Error>
-    ensures same_reference { transaction.new.conn.ghost_name ≡ transaction.old.conn.ghost_name }
-    ensures removed { HasCleanDisk (state S.Store transaction.new.conn.now) → (rows : List KeyedRow) → HasRows (state S.Store transaction.old.conn.now) rows
-        → OnOk result (HasRows (state S.Store transaction.new.conn.now) (without key.now rows)) }
-    ensures ran { HasCleanDisk (state S.Store transaction.new.conn.now) → IsTrue (state S.Store transaction.old.conn.now).in_transaction →
-        OnOk result (RemovesRow key.now (state S.Store transaction.old.conn.now) (state S.Store transaction.new.conn.now)) }
-    ensures refused { HasCleanDisk (state S.Store transaction.new.conn.now) → IsTrue (state S.Store transaction.old.conn.now).in_transaction →
-        IfErr result (RefusesToRemove key.now (state S.Store transaction.old.conn.now) (state S.Store transaction.new.conn.now)) }
-    ensures survives { Survives (state S.Store transaction.old.conn.now) (state S.Store transaction.new.conn.now) (λ _. ⊥) }
+    ensures { RunsInside S.Store HasRows (λ _. without key.now)
+        (λ _ before after. RemovesRow key.now (state S.Store before) (state S.Store after))
+        (λ before after. RefusesToRemove key.now (state S.Store before) (state S.Store after))
+        transaction.old.conn transaction.new.conn result }
 {
     transaction.execute("DELETE FROM parts WHERE key = ?1", params![key])?;
     Ok(())

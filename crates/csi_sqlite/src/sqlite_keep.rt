@@ -11,12 +11,13 @@ ghost use Rattle.csi_sqlite.specs.Public.Rows.{IsBlank, HasColumns};
 ghost use Rattle.csi_stores.specs.Public.Part.{StoredPart, part_change, put_all};
 ghost use Rattle.csi_stores.specs.Public.Content.{all_changed};
 ghost use Rattle.csi_stores.specs.Public.Keeping.{RefusesAt};
-ghost use Rattle.csi_stores.specs.Public.Stores.{Found, IsOnly, IsSettled, FindsSome, IsLoadFault, IsCommitFault};
+ghost use Rattle.csi_stores.specs.Public.Stores.{Found, IsOnly, IsSettled, FindsSome, IsLoadFault, CommitsChanges};
 ghost use Rattle.csi_stores.specs.Public.Stores.Found.{Parts};
 ghost use Rattle.csi_sqlite.specs.Public.Statements.{RefusesToMake};
 ghost use Rattle.csi_sqlite.specs.Public.Kept.{sqlite_store};
 ghost use Rattle.csi_sqlite.specs.Public.Opening.{FindsLeft, IsOpenedOver};
 ghost use Rattle.csi_sqlite.specs.Public.Refusals.{IsToldFault, IsNotLoaded, RefusesChanges};
+ghost use Rattle.csi_sqlite.specs.Public.Running.{ChangesAtOnce};
 ghost use Rattle.csi_sqlite.specs.Public.Loading.{IsLoaded, IsForeign, LeavesFound};
 ghost use Rattle.csi_sqlite.specs.Public.Tables.{StoresParts, HoldsParts, OpensOver, CountsFault, CountsOnce};
 ghost use Rattle.csi_sqlite.specs.Private.Tables.{IsCounted};
@@ -207,27 +208,11 @@ impl<S: Alter> Keep for SqliteKeep<S> {
     /// parts as they are to be, and no transaction is left open. It is never `Full`: a refusal is what SQLite answers to one of the
     /// changes, or to their commit.
     fn commit(&mut self, parts: &[Part]) -> Result<(), KeepFault>
-        ensures honest { HasCleanDisk (state S.Store self.new.connection) → HasCleanDisk (state S.Store self.old.connection) }
-        ensures done { HasCleanDisk (state S.Store self.new.connection) → (content : List StoredPart) →
-            HoldsParts (state S.Store self.old.connection) content →
-            OnOk result (IsOnly (sqlite_store (state S.Store self.new.connection) self.new.faults) (Parts (all_changed (map part_change parts.now) content))) }
-        ensures refused { HasCleanDisk (state S.Store self.new.connection) → (content : List StoredPart) →
-            HoldsParts (state S.Store self.old.connection) content → OnErr result ((other : Found) →
-            LeavesFound (state S.Store self.new.connection) other → LeavesFound (state S.Store self.old.connection) other
-            ⊎ (other ≡ Parts (all_changed (map part_change parts.now) content))) }
-        ensures some { HasCleanDisk (state S.Store self.new.connection) → (content : List StoredPart) →
-            IsOnly (sqlite_store (state S.Store self.old.connection) self.old.faults) (Parts content) →
-            FindsSome (sqlite_store (state S.Store self.new.connection) self.new.faults) }
-        ensures faults { self.old.faults ≤ self.new.faults }
-        ensures cause { IfErr result (λ fault. IsCommitFault (sqlite_store (state S.Store self.old.connection) self.old.faults) (sqlite_store
-            (state S.Store self.new.connection) self.new.faults) (all_changed (map part_change parts.now)) fault) }
+        ensures keeps { CommitsChanges (sqlite_store (state S.Store self.old.connection) self.old.faults) (sqlite_store
+            (state S.Store self.new.connection) self.new.faults) (map part_change parts.now) result }
         ensures counted { CountsOnce self.old.faults self.new.faults result }
-        ensures crash { HasCleanDisk (state S.Store self.new.connection) → (content : List StoredPart) →
-            HoldsParts (state S.Store self.old.connection) content → (db : Trees) → (state S.Store self.new.connection).may_leave db →
-            (state S.Store self.old.connection).may_leave db ⊎ StoresParts db (all_changed (map part_change parts.now) content) }
-        ensures told { HasCleanDisk (state S.Store self.new.connection) → (state S.Store self.old.connection).in_transaction ≡ false →
-            IfErr result (IsToldFault (RefusesChanges S.Store (map part_change parts.now) self.old.connection self.new.connection)) }
-        ensures outside { (state S.Store self.old.connection).in_transaction ≡ false → (state S.Store self.new.connection).in_transaction ≡ false }
+        ensures whole { ChangesAtOnce S.Store (map part_change parts.now) (IsToldFault (RefusesChanges S.Store (map part_change parts.now)
+            self.old.connection self.new.connection)) self.old.connection self.new.connection result }
     {
         if parts.is_empty() {
             return Ok(());

@@ -1,8 +1,8 @@
 //! Readers and writers whose failures are counted.
-ghost use Rattle.std.specs.Prelude.{◌≡◌, ◌≤◌, true, OnOk, OnErr};
-ghost use Rattle.std.specs.Io.{ReadsAtMost, WritesAtMost};
-ghost use Rattle.std.specs.Io.KnownBytes.{Keeps, Appends, Consumes, ReadConsumes, WriteAppends};
-ghost use Rattle.csi_stores.specs.Public.Counting.{HasRisen, is_error, is_write_fault, fault_count_after};
+ghost use Rattle.std.specs.Prelude.{◌≡◌, OnOk};
+ghost use Rattle.std.specs.Io.KnownBytes.{Keeps, Appends, Consumes};
+ghost use Rattle.csi_stores.specs.Public.Counting.{is_error, is_write_fault, CountsCall, ReadsCounted};
+ghost use Rattle.csi_stores.specs.Public.Writing.{TakesBytes};
 
 use std::io;
 use std::io::{Read, Write};
@@ -42,10 +42,7 @@ impl<T> Counted<T> {
 
     // Counts a call that failed.
     fn count(&mut self, fault: bool)
-        ensures faults { self.new.faults ≡ fault_count_after fault self.old.faults }
-        ensures rises { self.old.faults ≤ self.new.faults }
-        ensures risen { fault ≡ true → HasRisen self.old.faults self.new.faults }
-        ensures inner { self.new.inner ≡ self.old.inner }
+        ensures { CountsCall (self.new.inner ≡ self.old.inner) fault self.old.faults self.new.faults }
     {
         if fault && self.faults < u64::MAX {
             self.faults += 1;
@@ -57,11 +54,7 @@ impl<R: Read> Read for Counted<R> {
     ghost remaining = { λ counted. R.remaining counted.inner };
 
     fn read(&mut self, buf: &mut [u8]) -> io::Result<usize>
-        ensures bound { ReadsAtMost result buf.new }
-        ensures bytes { ReadConsumes (R.remaining self.old.inner) (R.remaining self.new.inner) result buf.new }
-        ensures faults { self.new.faults ≡ fault_count_after (is_error result) self.old.faults }
-        ensures rises { self.old.faults ≤ self.new.faults }
-        ensures risen { OnErr result (HasRisen self.old.faults self.new.faults) }
+        ensures { ReadsCounted (R.remaining self.old.inner) (R.remaining self.new.inner) self.old.faults self.new.faults result buf.new }
     {
         let result = self.inner.read(buf);
         self.count(result.is_err());
@@ -69,10 +62,8 @@ impl<R: Read> Read for Counted<R> {
     }
 
     fn read_exact(&mut self, buf: &mut [u8]) -> io::Result<()>
-        ensures bytes { OnOk result (Consumes (R.remaining self.old.inner) (R.remaining self.new.inner) buf.new) }
-        ensures faults { self.new.faults ≡ fault_count_after (is_error result) self.old.faults }
-        ensures rises { self.old.faults ≤ self.new.faults }
-        ensures risen { OnErr result (HasRisen self.old.faults self.new.faults) }
+        ensures { CountsCall (OnOk result (Consumes (R.remaining self.old.inner) (R.remaining self.new.inner) buf.new))
+            (is_error result) self.old.faults self.new.faults }
     {
         let result = self.inner.read_exact(buf);
         self.count(result.is_err());
@@ -84,11 +75,8 @@ impl<W: Write> Write for Counted<W> {
     ghost contents = { λ counted. W.contents counted.inner };
 
     fn write(&mut self, buf: &[u8]) -> io::Result<usize>
-        ensures bound { WritesAtMost result buf.now }
-        ensures bytes { WriteAppends (W.contents self.old.inner) (W.contents self.new.inner) result buf.now }
-        ensures faults { self.new.faults ≡ fault_count_after (is_write_fault buf.now result) self.old.faults }
-        ensures rises { self.old.faults ≤ self.new.faults }
-        ensures risen { is_write_fault buf.now result ≡ true → HasRisen self.old.faults self.new.faults }
+        ensures { CountsCall (TakesBytes (W.contents self.old.inner) (W.contents self.new.inner) result buf.now)
+            (is_write_fault buf.now result) self.old.faults self.new.faults }
     {
         let result = self.inner.write(buf);
         let fault = match &result {
@@ -100,10 +88,7 @@ impl<W: Write> Write for Counted<W> {
     }
 
     fn flush(&mut self) -> io::Result<()>
-        ensures bytes { Keeps (W.contents self.old.inner) (W.contents self.new.inner) }
-        ensures faults { self.new.faults ≡ fault_count_after (is_error result) self.old.faults }
-        ensures rises { self.old.faults ≤ self.new.faults }
-        ensures risen { OnErr result (HasRisen self.old.faults self.new.faults) }
+        ensures { CountsCall (Keeps (W.contents self.old.inner) (W.contents self.new.inner)) (is_error result) self.old.faults self.new.faults }
     {
         let result = self.inner.flush();
         self.count(result.is_err());
@@ -111,10 +96,8 @@ impl<W: Write> Write for Counted<W> {
     }
 
     fn write_all(&mut self, buf: &[u8]) -> io::Result<()>
-        ensures bytes { OnOk result (Appends (W.contents self.old.inner) (W.contents self.new.inner) buf.now) }
-        ensures faults { self.new.faults ≡ fault_count_after (is_error result) self.old.faults }
-        ensures rises { self.old.faults ≤ self.new.faults }
-        ensures risen { OnErr result (HasRisen self.old.faults self.new.faults) }
+        ensures { CountsCall (OnOk result (Appends (W.contents self.old.inner) (W.contents self.new.inner) buf.now))
+            (is_error result) self.old.faults self.new.faults }
     {
         let result = self.inner.write_all(buf);
         self.count(result.is_err());

@@ -1,9 +1,8 @@
 //! Where records are kept.
-ghost use Rattle.std.specs.Prelude.{◌≡◌, ◌≤◌, ◌⊎◌, ℕ, List, map, IfOk, IfErr, OnOk, OnErr};
+ghost use Rattle.std.specs.Prelude.{◌≡◌, ◌≤◌, ℕ, List, map, IfOk, IfErr, OnOk};
 ghost use Rattle.csi_stores.specs.Public.Part.{StoredPart, put_all, part_change};
-ghost use Rattle.csi_stores.specs.Public.Content.{all_changed};
 ghost use Rattle.csi_stores.specs.Public.Keeping.{RefusesAt};
-ghost use Rattle.csi_stores.specs.Public.Stores.{Store, Found, Parts, IsOnly, FindsSome, IsLoadFault, IsCommitFault};
+ghost use Rattle.csi_stores.specs.Public.Stores.{Store, Found, Parts, IsOnly, FindsSome, IsLoadFault, CommitsChanges};
 
 use crate::part::Part;
 use csi_types::NoMemory;
@@ -61,17 +60,7 @@ pub trait Keep {
     /// Puts parts in and takes them out, one after another, all or none. Where all is done, opening again finds that alone. After a refusal
     /// it finds what it would have found before, or all of them done.
     fn commit(&mut self, parts: &[Part]) -> Result<(), KeepFault>
-        ensures honest { (store self.new).honest → (store self.old).honest }
-        ensures done { (store self.new).honest → (content : List StoredPart) → (store self.old).holds content →
-            OnOk result (IsOnly (store self.new) (Parts (all_changed (map part_change parts.now) content))) }
-        ensures refused { (store self.new).honest → (content : List StoredPart) → (store self.old).holds content →
-            OnErr result ((other : Found) → (store self.new).leaves other →
-            (store self.old).leaves other ⊎ (other ≡ Parts (all_changed (map part_change parts.now) content))) }
-        ensures some { (store self.new).honest → (content : List StoredPart) → IsOnly (store self.old) (Parts content) → FindsSome (store self.new) }
-        ensures room { (content : List StoredPart) → (store self.old).fits content → (store self.new).fits content }
-        ensures no_more_room { (content : List StoredPart) → (store self.new).fits content → (store self.old).fits content }
-        ensures faults { (store self.old).faults ≤ (store self.new).faults }
-        ensures cause { IfErr result (λ fault. IsCommitFault (store self.old) (store self.new) (all_changed (map part_change parts.now)) fault) };
+        ensures { CommitsChanges (store self.old) (store self.new) (map part_change parts.now) result };
 
     /// How often the device failed so far; a count of 2^64 - 1 stays. It takes no memory.
     fn faults(&self) -> u64

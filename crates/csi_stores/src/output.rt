@@ -13,8 +13,9 @@ use thiserror::Error;
 #[error("the output can't be written")]
 pub struct WriteFailed;
 
-// Writes all bytes.
-fn write_all<W: Write>(writer: &mut Counted<W>, bytes: &[u8]) -> Result<(), WriteFailed>
+/// Writes all bytes, in as many calls as the writer wants, and flushes. It fails exactly where the writer does, which is counted; then
+/// some front of the bytes was written, or all. This profile's own.
+pub fn write_out<W: Write>(writer: &mut Counted<W>, bytes: &[u8]) -> Result<(), WriteFailed>
     ensures ok { OnOk result (Appends (W.contents writer.old.inner) (W.contents writer.new.inner) bytes.now) }
     ensures err { OnErr result (WritesFront (W.contents writer.old.inner) (W.contents writer.new.inner) bytes.now) }
     ensures risen { OnErr result (HasRisen writer.old.faults writer.new.faults) }
@@ -29,19 +30,6 @@ fn write_all<W: Write>(writer: &mut Counted<W>, bytes: &[u8]) -> Result<(), Writ
             Err(_) => return Err(WriteFailed),
         }
     }
-    Ok(())
-}
-
-/// Writes all bytes, in as many calls as the writer wants, and flushes. It fails exactly where the writer does, which is counted; then
-/// some front of the bytes was written, or all. This profile's own.
-pub fn write_out<W: Write>(writer: &mut Counted<W>, bytes: &[u8]) -> Result<(), WriteFailed>
-    ensures ok { OnOk result (Appends (W.contents writer.old.inner) (W.contents writer.new.inner) bytes.now) }
-    ensures err { OnErr result (WritesFront (W.contents writer.old.inner) (W.contents writer.new.inner) bytes.now) }
-    ensures risen { OnErr result (HasRisen writer.old.faults writer.new.faults) }
-    ensures faults { writer.old.faults ≤ writer.new.faults }
-    ensures quiet { OnOk result (writer.new.faults ≡ writer.old.faults) }
-{
-    write_all(writer, bytes)?;
     match writer.flush() {
         Ok(()) => Ok(()),
         Err(_) => Err(WriteFailed),

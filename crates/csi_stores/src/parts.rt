@@ -1,14 +1,13 @@
 //! Parts that are put into a store, and those that are taken out.
-ghost use Rattle.std.specs.Prelude.{◌≡◌, ◌++◌, ◌∷◌, [], map, OnOk, OnErr};
-ghost use Rattle.csi_stores.specs.Public.Part.{part_change, put_all, take_all};
+ghost use Rattle.std.specs.Prelude.{◌∷◌, []};
+ghost use Rattle.csi_stores.specs.Public.Part.{put_all, take_all, PutsBehind};
 
 use crate::part::Part;
 use csi_types::NoMemory;
 
 /// Puts a part of this key and value at the end. An `Err` leaves the parts as they were. This profile's own.
 pub fn push_value(parts: &mut Vec<Part>, key: u64, value: Vec<u8>) -> Result<(), NoMemory>
-    ensures ok { OnOk result (map part_change parts.new.items ≡ map part_change parts.old.items ++ put_all (record { key = key; value = value.items } ∷ [])) }
-    ensures err { OnErr result (parts.new.items ≡ parts.old.items) }
+    ensures { PutsBehind parts.old.items parts.new.items (put_all (record { key = key; value = value.items } ∷ [])) result }
 {
     parts.push(Part {
         key,
@@ -19,8 +18,7 @@ pub fn push_value(parts: &mut Vec<Part>, key: u64, value: Vec<u8>) -> Result<(),
 
 /// Puts at the end that the part of this key is taken out. An `Err` leaves the parts as they were. This profile's own.
 pub fn push_removal(parts: &mut Vec<Part>, key: u64) -> Result<(), NoMemory>
-    ensures ok { OnOk result (map part_change parts.new.items ≡ map part_change parts.old.items ++ take_all (key ∷ [])) }
-    ensures err { OnErr result (parts.new.items ≡ parts.old.items) }
+    ensures { PutsBehind parts.old.items parts.new.items (take_all (key ∷ [])) result }
 {
     parts.push(Part { key, value: None })?;
     Ok(())

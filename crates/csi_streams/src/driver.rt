@@ -2,7 +2,7 @@
 ghost use Rattle.std.specs.Prelude.{◌≡◌, ◌<◌, ◌≤◌, ◌+◌, ◌++◌, ◌^◌, ℕ, List, [], length};
 ghost use Rattle.csi_frames.specs.Public.Bytes.{AreBytes};
 ghost use Rattle.csi_streams.specs.Public.State.{State};
-ghost use Rattle.csi_streams.specs.Public.Driving.{Feeds, Drives, DrivesSlice, TellsReader, IsAskedAtRest};
+ghost use Rattle.csi_streams.specs.Public.Driving.{Feeds, Drives, DrivesSlice, TellsReader, MayRead};
 
 use crate::consumer::Consumer;
 use crate::source::Source;
@@ -51,10 +51,9 @@ pub fn drive<S, O, C: Consumer<S, O>, R: Source<S, O>>(
     reader: &mut R,
     piece: &mut [u8],
 ) -> Result<(), DriveStop<C::Fault>>
-    requires begun { C.rests (record { own = consumer.old; store = store.old; out = out.old }) []
-        (record { own = consumer.old; store = store.old; out = out.old }) }
-    requires room { 0 < length piece.old }
-    requires asks { IsAskedAtRest R.remaining R.may_read C.rests (record { own = consumer.old; store = store.old; out = out.old }) reader.old }
+    requires { MayRead R.remaining R.may_read C.rests
+        (C.rests (record { own = consumer.old; store = store.old; out = out.old }) [] (record { own = consumer.old; store = store.old; out = out.old }))
+        (record { own = consumer.old; store = store.old; out = out.old }) reader.old piece.old }
     ensures drives { Drives C.rests C.stops (record { own = consumer.old; store = store.old; out = out.old })
         (record { own = consumer.new; store = store.new; out = out.new })
         (R.remaining reader.old) (R.remaining reader.new) result }

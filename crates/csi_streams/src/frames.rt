@@ -5,10 +5,10 @@ ghost use Rattle.csi_frames.specs.Public.Bytes.{AreBytes};
 ghost use Rattle.csi_frames.specs.Public.Splitting.{new_splitting};
 ghost use Rattle.csi_frames.specs.Public.Stream.{FramesOf};
 ghost use Rattle.csi_streams.specs.Public.State.{State};
-ghost use Rattle.csi_streams.specs.Public.Driving.{TellsReader, IsAskedAtRest};
+ghost use Rattle.csi_streams.specs.Public.Driving.{TellsReader, MayRead};
 ghost use Rattle.csi_streams.specs.Public.Framing.{Reaches, Rests, StopsIn};
 ghost use Rattle.csi_streams.specs.Private.Framing.{HandlesNext, EndsIn};
-ghost use Rattle.csi_streams.specs.Public.Frames.{ReadsFrames, EndsFrames, RestsAtFrames};
+ghost use Rattle.csi_streams.specs.Public.Frames.{HasReadNothing, ReadsFrames, EndsFrames, RestsAtFrames};
 
 use crate::consumer::Consumer;
 use crate::driver::{DriveStop, drive, drive_slice};
@@ -160,12 +160,8 @@ impl<H> Frames<H> {
     ) -> Result<(), DriveStop<FramesFault<H::Fault>>>
     where
         H: FrameHandler<S, O>,
-        requires splitter { self.old.splitter ≡ new_splitting }
-        requires count { self.old.count ≡ 0 }
-        requires flushed { H.is_flushed self.old.handler }
-        requires room { 0 < length piece.old }
-        requires asks { IsAskedAtRest R.remaining R.may_read (RestsAtFrames H.handles H.flushes H.is_flushed)
-            (record { own = self.old.handler; store = store.old; out = out.old }) reader.old }
+        requires { MayRead R.remaining R.may_read (RestsAtFrames H.handles H.flushes H.is_flushed) (HasReadNothing H.is_flushed self.old)
+            (record { own = self.old.handler; store = store.old; out = out.old }) reader.old piece.old }
         ensures reads { ReadsFrames H.handles H.flushes H.is_flushed H.stops
             (record { own = self.old.handler; store = store.old; out = out.old })
             (record { own = self.new.handler; store = store.new; out = out.new })
@@ -191,8 +187,7 @@ impl<H> Frames<H> {
     where
         H: FrameHandler<S, O>,
         ensures bytes { AreBytes input.now }
-        ensures reads { self.old.splitter ≡ new_splitting → self.old.count ≡ 0 → H.is_flushed self.old.handler →
-            (frames : List FrameParts) (rest : List ℕ) → FramesOf input.now frames rest →
+        ensures reads { HasReadNothing H.is_flushed self.old → (frames : List FrameParts) (rest : List ℕ) → FramesOf input.now frames rest →
             EndsFrames H.handles H.flushes H.is_flushed H.stops
             (record { own = self.old.handler; store = store.old; out = out.old })
             (record { own = self.new.handler; store = store.new; out = out.new })

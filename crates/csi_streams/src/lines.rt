@@ -1,11 +1,11 @@
 //! The lines of a stream, handled one after another.
 ghost use Rattle.std.specs.Prelude.{◌≡◌, ◌<◌, ◌+◌, ◌-◌, ◌^◌, ℕ, min, List, [], length};
 ghost use Rattle.csi_streams.specs.Public.State.{State};
-ghost use Rattle.csi_streams.specs.Public.Driving.{TellsReader, IsAskedAtRest};
+ghost use Rattle.csi_streams.specs.Public.Driving.{TellsReader, MayRead};
 ghost use Rattle.csi_streams.specs.Public.LinesOf.{LinesOf};
 ghost use Rattle.csi_streams.specs.Public.Lining.{ReachesLines, RestsLines, StopsInLines};
 ghost use Rattle.csi_streams.specs.Private.Lining.{HandlesNextLine, HandlesLast};
-ghost use Rattle.csi_streams.specs.Public.Lines.{ReadsLines, EndsLines, RestsAtLines};
+ghost use Rattle.csi_streams.specs.Public.Lines.{HasReadNothing, ReadsLines, EndsLines, RestsAtLines};
 
 use crate::consumer::Consumer;
 use crate::driver::{DriveStop, drive, drive_slice};
@@ -165,12 +165,8 @@ impl<H> Lines<H> {
     ) -> Result<(), DriveStop<LinesFault<H::Fault>>>
     where
         H: LineHandler<S, O>,
-        requires buffer { self.old.buffer ≡ [] }
-        requires count { self.old.count ≡ 0 }
-        requires flushed { H.is_flushed self.old.handler }
-        requires room { 0 < length piece.old }
-        requires asks { IsAskedAtRest R.remaining R.may_read (RestsAtLines H.handles H.flushes H.is_flushed)
-            (record { own = self.old.handler; store = store.old; out = out.old }) reader.old }
+        requires { MayRead R.remaining R.may_read (RestsAtLines H.handles H.flushes H.is_flushed) (HasReadNothing H.is_flushed self.old)
+            (record { own = self.old.handler; store = store.old; out = out.old }) reader.old piece.old }
         ensures reads { ReadsLines H.handles H.flushes H.is_flushed H.stops
             (record { own = self.old.handler; store = store.old; out = out.old })
             (record { own = self.new.handler; store = store.new; out = out.new })
@@ -195,8 +191,7 @@ impl<H> Lines<H> {
     ) -> Result<(), LinesFault<H::Fault>>
     where
         H: LineHandler<S, O>,
-        ensures { self.old.buffer ≡ [] → self.old.count ≡ 0 → H.is_flushed self.old.handler →
-            (lines : List (List ℕ)) (rest : List ℕ) → LinesOf input.now lines rest →
+        ensures { HasReadNothing H.is_flushed self.old → (lines : List (List ℕ)) (rest : List ℕ) → LinesOf input.now lines rest →
             EndsLines H.handles H.flushes H.is_flushed H.stops
             (record { own = self.old.handler; store = store.old; out = out.old })
             (record { own = self.new.handler; store = store.new; out = out.new })

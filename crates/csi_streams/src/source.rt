@@ -1,8 +1,6 @@
 //! What a stream is read from.
-ghost use Rattle.std.specs.Prelude.{◌≡◌, ℕ, List, Option, OnOk, OnErr};
-ghost use Rattle.std.specs.Io.{ReadsAtMost};
-ghost use Rattle.std.specs.Io.KnownBytes.{ReadConsumes};
-ghost use Rattle.csi_stores.specs.Public.Counting.{HasRisen};
+ghost use Rattle.std.specs.Prelude.{ℕ, List, Option};
+ghost use Rattle.csi_stores.specs.Public.Counting.{ReadsCounted};
 
 use csi_stores::Counted;
 use std::io;
@@ -14,7 +12,7 @@ pub trait Source<S, O> {
     /// What is left of the stream, where that is known.
     ghost remaining: { Self → Option (List ℕ) };
 
-    /// How many calls failed.
+    /// How many calls failed, up to 2^64 - 1.
     ghost faults: { Self → ℕ };
 
     /// It may be asked for more where the store and the output are these.
@@ -23,10 +21,7 @@ pub trait Source<S, O> {
     /// Gives at most as many bytes as the piece has, and none at the end.
     fn give(&mut self, store: &S, out: &O, piece: &mut [u8]) -> io::Result<usize>
         requires { may_read self.old store.now out.now }
-        ensures bound { ReadsAtMost result piece.new }
-        ensures bytes { ReadConsumes (remaining self.old) (remaining self.new) result piece.new }
-        ensures quiet { OnOk result (faults self.new ≡ faults self.old) }
-        ensures risen { OnErr result (HasRisen (faults self.old) (faults self.new)) };
+        ensures { ReadsCounted (remaining self.old) (remaining self.new) (faults self.old) (faults self.new) result piece.new };
 }
 
 /// A reader may be asked at any time.

@@ -1,9 +1,6 @@
 //! What waits of the items that were answered, frames or lines: what they changed is committed at once, and then their answers are written.
-ghost use Rattle.std.specs.Prelude.{◌≡◌, [], OnOk, OnErr, IfErr};
-ghost use Rattle.std.specs.Io.KnownBytes.{Appends};
-ghost use Rattle.csi_stores.specs.Public.Counting.{HasRisen};
-ghost use Rattle.csi_stores.specs.Public.Writing.{WritesFront};
-ghost use Rattle.csi_streams.specs.Public.Waiting.{IsCountedOn, Settles, SettleStops};
+ghost use Rattle.std.specs.Prelude.{◌≡◌, ◌<◌, ◌⊎◌, [], length};
+ghost use Rattle.csi_streams.specs.Public.Waiting.{SettlesWaiting};
 
 use crate::merging::merge_heads;
 use csi_stores::{Counted, Keep, KeepFault, Part, WriteFailed, write_out};
@@ -53,20 +50,25 @@ impl Waiting {
         }
     }
 
-    // Counts the items that wait as committed, and writes their answers; then nothing waits any more. It is inlined, so that a call that changes nothing costs no call more.
-    #[inline(always)]
-    fn write_answers<W: Write>(&mut self, writer: &mut Counted<W>) -> Result<(), AnswerFault>
-        ensures committed { IsCountedOn self.old self.new }
-        ensures answers { self.new.answers ≡ self.old.answers }
-        ensures out { OnOk result (self.new.out.items ≡ []) }
-        ensures parts { OnOk result (self.new.parts.items ≡ []) }
-        ensures items { OnOk result (self.new.items ≡ 0) }
-        ensures written { OnOk result (Appends (W.contents writer.old.inner) (W.contents writer.new.inner) self.old.out.items) }
-        ensures quiet { OnOk result (writer.new.faults ≡ writer.old.faults) }
-        ensures err { IfErr result (λ fault. fault ≡ AnswerFault.Output) }
-        ensures front { OnErr result (WritesFront (W.contents writer.old.inner) (W.contents writer.new.inner) self.old.out.items) }
-        ensures risen { OnErr result (HasRisen writer.old.faults writer.new.faults) }
+    /// Commits all that the items changed that wait, in one transaction, if they changed anything, and then writes their answers.
+    pub fn settle<K: Keep, W: Write>(
+        &mut self,
+        keep: &mut K,
+        writer: &mut Counted<W>,
+    ) -> Result<(), AnswerFault>
+        ensures { SettlesWaiting K.store W.contents (self.new.items ≡ 0) (record { own = self.old; store = keep.old; out = writer.old })
+            (record { own = self.new; store = keep.new; out = writer.new }) result }
     {
+        if self.items == 0 {
+            return Ok(());
+        }
+        if !self.parts.is_empty() {
+            merge_heads(&mut self.parts);
+            match keep.commit(&self.parts) {
+                Ok(()) => {}
+                Err(fault) => return Err(AnswerFault::Keep(fault)),
+            }
+        }
         self.committed = self.committed.saturating_add(self.items);
         match write_out(writer, &self.out) {
             Ok(()) => {
@@ -79,54 +81,14 @@ impl Waiting {
         }
     }
 
-    /// Commits all that the items changed that wait, in one transaction, if they changed anything, and then writes their answers.
-    pub fn settle<K: Keep, W: Write>(
-        &mut self,
-        keep: &mut K,
-        writer: &mut Counted<W>,
-    ) -> Result<(), AnswerFault>
-        ensures ok { OnOk result (Settles K.store W.contents (record { own = self.old; store = keep.old; out = writer.old }) (record {
-          own = self.new;
-          store = keep.new;
-          out = writer.new;
-        })) }
-        ensures none { OnOk result (self.new.items ≡ 0) }
-        ensures err { IfErr result (SettleStops K.store W.contents (record { own = self.old; store = keep.old; out = writer.old }) (record {
-          own = self.new;
-          store = keep.new;
-          out = writer.new;
-        })) }
-    {
-        if self.items == 0 {
-            return Ok(());
-        }
-        if self.parts.is_empty() {
-            return self.write_answers(writer);
-        }
-        merge_heads(&mut self.parts);
-        match keep.commit(&self.parts) {
-            Ok(()) => {}
-            Err(fault) => return Err(AnswerFault::Keep(fault)),
-        }
-        self.write_answers(writer)
-    }
-
-    /// The same where many parts wait; else nothing.
+    /// The same where many parts wait; else nothing. After it fewer than 1,024 parts wait, or nothing.
     pub fn settle_many<K: Keep, W: Write>(
         &mut self,
         keep: &mut K,
         writer: &mut Counted<W>,
     ) -> Result<(), AnswerFault>
-        ensures ok { OnOk result (Settles K.store W.contents (record { own = self.old; store = keep.old; out = writer.old }) (record {
-          own = self.new;
-          store = keep.new;
-          out = writer.new;
-        })) }
-        ensures err { IfErr result (SettleStops K.store W.contents (record { own = self.old; store = keep.old; out = writer.old }) (record {
-          own = self.new;
-          store = keep.new;
-          out = writer.new;
-        })) }
+        ensures { SettlesWaiting K.store W.contents ((length self.new.parts.items < 1024) ⊎ (self.new.items ≡ 0))
+            (record { own = self.old; store = keep.old; out = writer.old }) (record { own = self.new; store = keep.new; out = writer.new }) result }
     {
         if self.parts.len() < MOST_PARTS {
             return Ok(());

@@ -1,13 +1,12 @@
 //! Changes of the table.
-ghost use Rattle.std.specs.Prelude.{◌≡◌, ◌⊎◌, List, map, false, IsTrue, IfErr, OnOk};
+ghost use Rattle.std.specs.Prelude.{map};
 ghost use Rattle.sqlite.specs.Held.{Held, state};
-ghost use Rattle.sqlite.specs.State.{HasCleanDisk, Survives};
 ghost use Rattle.sqlite.specs.Steps.{FailsToCommit};
-ghost use Rattle.sqlite.specs.Tree.{Trees};
-ghost use Rattle.csi_stores.specs.Public.Part.{StoredPart, part_change};
+ghost use Rattle.csi_stores.specs.Public.Part.{part_change};
 ghost use Rattle.csi_stores.specs.Public.Content.{changed_to, all_changed};
 ghost use Rattle.csi_sqlite.specs.Public.Refusals.{MakesChange, RefusesChange, IsUndone, RefusesOneOf, RefusesChanges};
-ghost use Rattle.csi_sqlite.specs.Public.Tables.{StoresParts, HasParts, HoldsParts};
+ghost use Rattle.csi_sqlite.specs.Public.Running.{RunsInside, ChangesAtOnce};
+ghost use Rattle.csi_sqlite.specs.Public.Tables.{HasParts};
 
 use crate::rows::{put_row, remove_row};
 use csi_stores::Part;
@@ -15,17 +14,10 @@ use sqlite::{Alter, Connection, Error, ErrorCode, Transaction};
 
 // Makes one change. An error is SQLite's own at its statement.
 fn change<S: Alter>(transaction: &mut Transaction<'_, S>, part: &Part) -> Result<(), Error>
-    ensures same_reference { transaction.new.conn.ghost_name ≡ transaction.old.conn.ghost_name }
-    ensures changed { HasCleanDisk (state S.Store transaction.new.conn.now) → (content : List StoredPart) →
-        HasParts (state S.Store transaction.old.conn.now) content
-        → OnOk result (HasParts (state S.Store transaction.new.conn.now) (changed_to (part_change part.now).key (part_change part.now).value content)) }
-    ensures made { HasCleanDisk (state S.Store transaction.new.conn.now) → IsTrue (state S.Store transaction.old.conn.now).in_transaction
-        → OnOk result (MakesChange S.Store (part_change part.now).key (part_change part.now).value
-        transaction.old.conn.now transaction.new.conn.now) }
-    ensures refused { HasCleanDisk (state S.Store transaction.new.conn.now) → IsTrue (state S.Store transaction.old.conn.now).in_transaction
-        → IfErr result (RefusesChange S.Store (part_change part.now).key (part_change part.now).value
-        transaction.old.conn.now transaction.new.conn.now) }
-    ensures survives { Survives (state S.Store transaction.old.conn.now) (state S.Store transaction.new.conn.now) (λ _. ⊥) }
+    ensures { RunsInside S.Store HasParts (λ _. changed_to (part_change part.now).key (part_change part.now).value)
+        (λ _. MakesChange S.Store (part_change part.now).key (part_change part.now).value)
+        (RefusesChange S.Store (part_change part.now).key (part_change part.now).value)
+        transaction.old.conn transaction.new.conn result }
 {
     let key = part.key.to_be_bytes();
     match &part.value {
@@ -36,17 +28,11 @@ fn change<S: Alter>(transaction: &mut Transaction<'_, S>, part: &Part) -> Result
 
 // Makes the changes, one after another. An error is SQLite's own at one of them, and one that follows at the commit is after them all.
 fn change_all<S: Alter>(transaction: &mut Transaction<'_, S>, parts: &[Part]) -> Result<(), Error>
-    ensures same_reference { transaction.new.conn.ghost_name ≡ transaction.old.conn.ghost_name }
-    ensures changed { HasCleanDisk (state S.Store transaction.new.conn.now) → (content : List StoredPart) →
-        HasParts (state S.Store transaction.old.conn.now) content
-        → OnOk result (HasParts (state S.Store transaction.new.conn.now) (all_changed (map part_change parts.now) content)) }
-    ensures made { HasCleanDisk (state S.Store transaction.new.conn.now) → IsTrue (state S.Store transaction.old.conn.now).in_transaction →
-        (after : Held S) (error : Error)
-        → FailsToCommit (state S.Store transaction.new.conn.now) (state S.Store after) error
-        → OnOk result (RefusesOneOf S.Store (map part_change parts.now) transaction.old.conn.now after error) }
-    ensures refused { HasCleanDisk (state S.Store transaction.new.conn.now) → IsTrue (state S.Store transaction.old.conn.now).in_transaction → (after : Held S)
-        → IsUndone S.Store transaction.new.conn.now after → IfErr result (RefusesOneOf S.Store (map part_change parts.now) transaction.old.conn.now after) }
-    ensures survives { Survives (state S.Store transaction.old.conn.now) (state S.Store transaction.new.conn.now) (λ _. ⊥) }
+    ensures { RunsInside S.Store HasParts (λ _. all_changed (map part_change parts.now))
+        (λ _ before now. (after : Held S) (error : Error) → FailsToCommit (state S.Store now) (state S.Store after) error →
+        RefusesOneOf S.Store (map part_change parts.now) before after error)
+        (λ before now error. (after : Held S) → IsUndone S.Store now after → RefusesOneOf S.Store (map part_change parts.now) before after error)
+        transaction.old.conn transaction.new.conn result }
 {
     for part in parts {
         change(transaction, part)?;
@@ -60,15 +46,8 @@ pub(crate) fn change_at_once<S: Alter>(
     connection: &mut Connection<S>,
     parts: &[Part],
 ) -> Result<(), Error>
-    ensures clean { HasCleanDisk (state S.Store connection.new) → HasCleanDisk (state S.Store connection.old) }
-    ensures done { HasCleanDisk (state S.Store connection.new) → (content : List StoredPart) → HoldsParts (state S.Store connection.old) content
-        → OnOk result (HoldsParts (state S.Store connection.new) (all_changed (map part_change parts.now) content)) }
-    ensures crash { HasCleanDisk (state S.Store connection.new) → (content : List StoredPart) → HoldsParts (state S.Store connection.old) content
-        → (db : Trees) → (state S.Store connection.new).may_leave db
-        → (state S.Store connection.old).may_leave db ⊎ StoresParts db (all_changed (map part_change parts.now) content) }
-    ensures refused { HasCleanDisk (state S.Store connection.new) → (state S.Store connection.old).in_transaction ≡ false →
-        IfErr result (RefusesChanges S.Store (map part_change parts.now) connection.old connection.new) }
-    ensures outside { (state S.Store connection.old).in_transaction ≡ false → (state S.Store connection.new).in_transaction ≡ false }
+    ensures { ChangesAtOnce S.Store (map part_change parts.now) (RefusesChanges S.Store (map part_change parts.now) connection.old connection.new)
+        connection.old connection.new result }
 {
     if !connection.is_autocommit() {
         return Err(Error::SqliteFailure(ErrorCode::TransactionState));

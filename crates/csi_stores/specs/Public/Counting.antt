@@ -1,5 +1,7 @@
 -- Counts of failures, and what a counted reader or writer counts. This profile's own.
-use Rattle.std.specs.Prelude.{◌≡◌, ◌⊎◌, ℕ, ◌+◌, ◌<◌, ◌-◌, ◌^◌, ◌==◌, ◌&&◌, min, not, Bool, true, false, if◌then◌else◌, List, length, Result, Ok, Err}
+use Rattle.std.specs.Prelude.{◌≡◌, ◌⊎◌, ℕ, ◌+◌, ◌≤◌, ◌<◌, ◌-◌, ◌^◌, ◌==◌, ◌&&◌, min, not, Bool, true, false, if◌then◌else◌, List, length, Option, Result, Ok, Err, OnErr}
+use Rattle.std.specs.Io.{ReadsAtMost}
+use Rattle.std.specs.Io.KnownBytes.{ReadConsumes}
 
 -- one more failure, up to 2^64 - 1
 abbrev pub one_more : ℕ → ℕ
@@ -22,3 +24,18 @@ is_write_fault bytes (Err e) = true
 -- the count after a call
 abbrev pub fault_count_after : Bool → ℕ → ℕ
 fault_count_after fault count = if fault then one_more count else count
+
+-- a call does this with the bytes, and is counted where it failed
+pub record CountsCall (does : Type 0) (fault : Bool) (before after : ℕ) : Type 0 where
+  pub bytes : does
+  pub faults : after ≡ fault_count_after fault before
+  pub rises : before ≤ after
+  pub risen : fault ≡ true → HasRisen before after
+
+-- A read gives at most as many bytes as the piece has, and none at the end; and it is counted where it failed.
+pub record ReadsCounted {E : Type 0} (left_before left_after : Option (List ℕ)) (before after : ℕ) (result : Result ℕ E) (piece : List ℕ) : Type 0 where
+  pub bound : ReadsAtMost result piece
+  pub bytes : ReadConsumes left_before left_after result piece
+  pub faults : after ≡ fault_count_after (is_error result) before
+  pub rises : before ≤ after
+  pub risen : OnErr result (HasRisen before after)

@@ -1,5 +1,5 @@
 -- The parts of a record, as contracts see them. This profile's own.
-use Rattle.std.specs.Prelude.{ℕ, ◌<◌, ◌^◌, List, [], length, map, Option, Some, None, option_map}
+use Rattle.std.specs.Prelude.{◌≡◌, ℕ, ◌<◌, ◌^◌, List, [], ◌++◌, length, map, Option, Some, None, option_map, Result, OnOk, OnErr}
 use Rattle.std.specs.Global.{Vec}
 use Rattle.csi_types.specs.Public.Limits.{IsWord}
 use Rattle.csi_stores.specs.declared.part.Part.{Part}
@@ -47,3 +47,8 @@ all_stored_in parts = map stored_in parts
 pub record IsPart (part : StoredPart) : Type 0 where
   pub key : IsWord part.key
   pub value : length part.value < 2 ^ 32
+
+-- what makes these changes was put behind the parts, or they are as they were
+pub record PutsBehind {E : Type 0} (before after : List Part) (changes : List StoredChange) (result : Result (Unit {0}) E) : Type 0 where
+  pub ok : OnOk result (map part_change after ≡ map part_change before ++ changes)
+  pub err : OnErr result (after ≡ before)

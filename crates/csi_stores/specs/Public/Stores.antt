@@ -1,8 +1,9 @@
 -- A store before and after a call, and what serving says of it. This profile's own.
-use Rattle.std.specs.Prelude.{◌≡◌, ◌⊎◌, ℕ, ◌≤◌, List}
+use Rattle.std.specs.Prelude.{◌≡◌, ◌⊎◌, ℕ, ◌≤◌, List, Result, IfErr, OnOk, OnErr}
 use Rattle.csi_stores.specs.declared.keep.KeepFault.{KeepFault}
 use Rattle.csi_stores.specs.declared.keep.KeepFault.TheVariants.{Device, NoMemory, BadRecord, Full}
-use Rattle.csi_stores.specs.Public.Part.{StoredPart}
+use Rattle.csi_stores.specs.Public.Part.{StoredPart, StoredChange}
+use Rattle.csi_stores.specs.Public.Content.{all_changed}
 use Rattle.csi_stores.specs.Public.Counting.{HasRisen}
 
 -- What opening a store may find: these parts, by rising key; a list in which the thing at this place, from 0, is the first that is no
@@ -63,6 +64,20 @@ IsCommitFault before after change Device = HasRisen before.faults after.faults
 IsCommitFault before after change NoMemory = Unit {0}
 IsCommitFault before after change (BadRecord place) = ⊥
 IsCommitFault before after change Full = after.honest → (content : List StoredPart) → before.holds content → before.fits (change content) → ⊥
+
+-- ---- what a commit does
+
+-- These changes are made, one after another, all or none. Where all is done, opening it again finds that alone; after a refusal it
+-- finds what it would have found before, or all of them done.
+pub record CommitsChanges (before after : Store) (changes : List StoredChange) (result : Result (Unit {0}) KeepFault) : Type 0 where
+  pub honest : after.honest → before.honest
+  pub done : after.honest → (content : List StoredPart) → before.holds content → OnOk result (IsOnly after (Parts (all_changed changes content)))
+  pub refused : after.honest → (content : List StoredPart) → before.holds content → OnErr result ((other : Found) → after.leaves other → before.leaves other ⊎ (other ≡ Parts (all_changed changes content)))
+  pub some : after.honest → (content : List StoredPart) → IsOnly before (Parts content) → FindsSome after
+  pub room : (content : List StoredPart) → before.fits content → after.fits content
+  pub no_more_room : (content : List StoredPart) → after.fits content → before.fits content
+  pub faults : before.faults ≤ after.faults
+  pub cause : IfErr result (λ fault. IsCommitFault before after (all_changed changes) fault)
 
 -- ---- what callers say of stores
 

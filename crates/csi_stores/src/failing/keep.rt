@@ -1,10 +1,10 @@
 //! A store that fails at one call.
-ghost use Rattle.std.specs.Prelude.{◌≡◌, ◌≤◌, ◌⊎◌, ◌+◌, ◌-◌, ◌^◌, ℕ, List, map, min, true, false, IfOk, IfErr, OnOk, OnErr, IsErr, Err};
+ghost use Rattle.std.specs.Prelude.{◌≡◌, ◌≤◌, ◌⊎◌, ◌+◌, ◌-◌, ◌^◌, ℕ, List, map, min, true, false, IfOk, IfErr, OnOk, IsErr, Err};
 ghost use Rattle.csi_stores.specs.Public.Part.{StoredPart, put_all, part_change};
 ghost use Rattle.csi_stores.specs.Public.Content.{all_changed};
 ghost use Rattle.csi_stores.specs.Public.Counting.{one_more, fault_count_after};
 ghost use Rattle.csi_stores.specs.Public.Keeping.{RefusesAt};
-ghost use Rattle.csi_stores.specs.Public.Stores.{Found, Parts, IsOnly, FindsSome, IsLoadFault, IsCommitFault};
+ghost use Rattle.csi_stores.specs.Public.Stores.{Found, Parts, IsOnly, FindsSome, IsLoadFault, CommitsChanges};
 ghost use Rattle.csi_stores.specs.Public.FailingCalls.{is_due, passing_after_call};
 ghost use Rattle.csi_stores.specs.Public.FailingKeep.{failing};
 
@@ -102,19 +102,8 @@ impl<K: Keep> Keep for FailingKeep<K> {
     /// A commit of the store under it, which isn't asked where this is the one that fails and leaves what was there. Where it leaves
     /// what is to be there, a refusal of that store is the answer, and nothing else is counted.
     fn commit(&mut self, parts: &[Part]) -> Result<(), KeepFault>
-        ensures honest { (K.store self.new.inner).honest → (K.store self.old.inner).honest }
-        ensures done { (K.store self.new.inner).honest → (content : List StoredPart) → (K.store self.old.inner).holds content →
-            OnOk result (IsOnly (K.store self.new.inner) (Parts (all_changed (map part_change parts.now) content))) }
-        ensures refused { (K.store self.new.inner).honest → (content : List StoredPart) → (K.store self.old.inner).holds content →
-            OnErr result ((other : Found) → (K.store self.new.inner).leaves other →
-            (K.store self.old.inner).leaves other ⊎ (other ≡ Parts (all_changed (map part_change parts.now) content))) }
-        ensures some { (K.store self.new.inner).honest → (content : List StoredPart) → IsOnly (K.store self.old.inner) (Parts content) →
-            FindsSome (K.store self.new.inner) }
-        ensures room { (content : List StoredPart) → (K.store self.old.inner).fits content → (K.store self.new.inner).fits content }
-        ensures no_more_room { (content : List StoredPart) → (K.store self.new.inner).fits content → (K.store self.old.inner).fits content }
-        ensures faults { (failing self.old.failures (K.store self.old.inner)).faults ≤ (failing self.new.failures (K.store self.new.inner)).faults }
-        ensures cause { IfErr result (λ fault. IsCommitFault (failing self.old.failures (K.store self.old.inner)) (failing self.new.failures
-            (K.store self.new.inner)) (all_changed (map part_change parts.now)) fault) }
+        ensures keeps { CommitsChanges (failing self.old.failures (K.store self.old.inner)) (failing self.new.failures (K.store self.new.inner))
+            (map part_change parts.now) result }
         ensures fails { is_due self.old.commit ≡ true → IsErr result }
         ensures leaves_old { is_due self.old.commit ≡ true → self.old.left ≡ Left.Old →
             (result ≡ Err KeepFault.Device) ×

@@ -1,8 +1,8 @@
 //! A writer that fails at one call.
 ghost use Rattle.std.specs.Prelude.{◌≡◌, ◌≤◌, true, IfOk, IsErr};
-ghost use Rattle.std.specs.Io.{WritesAtMost};
-ghost use Rattle.std.specs.Io.KnownBytes.{WriteAppends, Keeps};
+ghost use Rattle.std.specs.Io.KnownBytes.{Keeps};
 ghost use Rattle.csi_stores.specs.Public.Counting.{one_more};
+ghost use Rattle.csi_stores.specs.Public.Writing.{TakesBytes};
 ghost use Rattle.csi_stores.specs.Public.FailingCalls.{is_due, passing_after_call};
 
 use crate::failing::counting::falls;
@@ -61,8 +61,7 @@ impl<W: Write> Write for FailingWriter<W> {
     ghost contents = { λ writer. W.contents writer.inner };
 
     fn write(&mut self, buf: &[u8]) -> io::Result<usize>
-        ensures bound { WritesAtMost result buf.now }
-        ensures bytes { WriteAppends (W.contents self.old.inner) (W.contents self.new.inner) result buf.now }
+        ensures takes { TakesBytes (W.contents self.old.inner) (W.contents self.new.inner) result buf.now }
         ensures few { IfOk result (λ count. count ≤ self.old.most) }
         ensures fails { is_due self.old.write ≡ true → IsErr result × (self.new.inner ≡ self.old.inner) }
         ensures next { self.new ≡ record self.old { inner = self.new.inner; write = passing_after_call self.old.write } }

@@ -47,3 +47,10 @@ TellsReader before after (Err _) = after ≡ before
 -- The reader may be asked for more wherever all that it gave was handled, and nothing waits.
 abbrev pub IsAskedAtRest : {A S O R : Type 0} → (R → Option (List ℕ)) → (R → S → O → Type 0) → (State A S O → List ℕ → State A S O → Type 0) → State A S O → R → Type 0
 IsAskedAtRest {A} {S} {O} {R} remaining may_read rests first reader = (gone : R) (read : List ℕ) (now : State A S O) → Consumes (remaining reader) (remaining gone) read → rests first read now → may_read gone now.store now.out
+
+-- What a stream is read with that has begun so: a piece that has room, and a reader that may be asked for more wherever all that it gave was
+-- handled, and nothing waits.
+pub record MayRead {A S O R : Type 0} (remaining : R → Option (List ℕ)) (may_read : R → S → O → Type 0) (rests : State A S O → List ℕ → State A S O → Type 0) (has_begun : Type 0) (first : State A S O) (reader : R) (piece : List ℕ) : Type 0 where
+  pub begun : has_begun
+  pub room : 0 < length piece
+  pub asks : IsAskedAtRest remaining may_read rests first reader

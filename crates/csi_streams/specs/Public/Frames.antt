@@ -7,14 +7,22 @@ use Rattle.csi_frames.specs.declared.fault.FaultKind.{FaultKind}
 use Rattle.csi_frames.specs.declared.fault.FaultKind.TheVariants.{Short}
 use Rattle.csi_frames.specs.Public.Fault.{IsFaulty}
 use Rattle.csi_frames.specs.Public.Spelling.{spelling}
+use Rattle.csi_frames.specs.Public.Splitting.{new_splitting}
 use Rattle.csi_frames.specs.Public.Stream.{FramesOf}
 use Rattle.csi_streams.specs.declared.driver.DriveStop.{DriveStop}
+use Rattle.csi_streams.specs.declared.frames.Frames.{Frames}
 use Rattle.csi_streams.specs.declared.frames.FramesFault.{FramesFault}
 use Rattle.csi_streams.specs.declared.frames.FramesFault.TheVariants as faults
 use Rattle.csi_streams.specs.Public.State.{State}
 use Rattle.csi_streams.specs.Public.Framing.{Runs}
 pub use Rattle.csi_streams.specs.Public.Handled.{IsBehind}
 use Rattle.csi_streams.specs.Public.Handled.{AllHandled, FirstHandled, EndsReading}
+
+-- nothing was read yet, and nothing waits to be written
+pub record HasReadNothing {H : Type 0} (is_flushed : H → Type 0) (frames : Frames H) : Type 0 where
+  pub splitter : frames.splitter ≡ new_splitting
+  pub count : frames.count ≡ 0
+  pub flushed : is_flushed frames.handler
 
 -- the first fault of the rest, which isn't empty; its place counts from the front of the stream
 pub record IsFaultOf (frames : List Frame) (rest : List ℕ) (kind : FaultKind) (place : ℕ) : Type 0 where

@@ -2,12 +2,19 @@
 use Rattle.std.specs.Prelude.{◌≡◌, ◌<◌, ◌≤◌, ◌+◌, ◌^◌, ◌++◌, ◌⊎◌, ℕ, List, [], ◌∷◌, length, take, slice_get, Option, Some, Result, Ok, Err, IfSome}
 use Rattle.std.specs.Io.KnownBytes.{Consumes, IsAtEnd}
 use Rattle.csi_streams.specs.declared.driver.DriveStop.{DriveStop}
+use Rattle.csi_streams.specs.declared.lines.Lines.{Lines}
 use Rattle.csi_streams.specs.declared.lines.LinesFault.{LinesFault}
 use Rattle.csi_streams.specs.declared.lines.LinesFault.TheVariants as faults
 use Rattle.csi_streams.specs.Public.LinesOf.{LinesOf, IsShort, and_last}
 use Rattle.csi_streams.specs.Public.Handled.{AllHandled, FirstHandled, IsBehind, EndsReading}
 use Rattle.csi_streams.specs.Public.Lining.{RunsLines}
 use Rattle.csi_streams.specs.Public.State.{State}
+
+-- nothing was read yet, and nothing waits to be written
+pub record HasReadNothing {H : Type 0} (is_flushed : H → Type 0) (lines : Lines H) : Type 0 where
+  pub buffer : lines.buffer ≡ []
+  pub count : lines.count ≡ 0
+  pub flushed : is_flushed lines.handler
 
 -- the first lines were handled, as many as are counted, and then it stopped, at no line that is too long
 pub record HaltsAtLine {H S O F : Type 0} (handles : State H S O → ℕ → List ℕ → State H S O → Type 0) (flushes : State H S O → State H S O → Type 0) (stops : State H S O → Option (List ℕ) → State H S O → F → Type 0) (first now : State H S O) (lines : List (List ℕ)) (count : ℕ) (fault : F) : Type 0 where

@@ -1,5 +1,5 @@
 -- What waits of the items that were answered, frames or lines, and how it is committed and written. This profile's own.
-use Rattle.std.specs.Prelude.{◌≡◌, ◌⊎◌, ℕ, ◌+◌, ◌-◌, ◌^◌, ◌<◌, min, List, [], map, Option}
+use Rattle.std.specs.Prelude.{◌≡◌, ◌⊎◌, ℕ, ◌+◌, ◌-◌, ◌^◌, ◌<◌, min, List, [], map, Option, Result, OnOk, IfErr}
 use Rattle.std.specs.Io.KnownBytes.{Appends}
 use Rattle.csi_stores.specs.declared.keep.KeepFault.{KeepFault}
 use Rattle.csi_stores.specs.declared.counted.Counted.{Counted}
@@ -68,6 +68,12 @@ abbrev pub SettleStops : {K W : Type 0} → (K → Store) → (W → Option (Lis
 SettleStops store contents old new why.NoMemory = ⊥
 SettleStops store contents old new (why.Keep fault) = Refused store old new fault
 SettleStops store contents old new why.Output = Unwritten store contents old new
+
+-- What waits was settled, or nothing was done; and then what waits is as it is wanted. Or settling it stopped.
+pub record SettlesWaiting {K W : Type 0} (store : K → Store) (contents : W → Option (List ℕ)) (wanted : Type 0) (old new : Settling K W) (result : Result (Unit {0}) AnswerFault) : Type 0 where
+  pub ok : OnOk result (Settles store contents old new)
+  pub none : OnOk result wanted
+  pub err : IfErr result (SettleStops store contents old new)
 
 -- the same waits
 pub record WaitsSame (old new : Waiting) : Type 0 where

@@ -1,5 +1,5 @@
 -- What was read are lines, of which those that are counted were answered.
-use Rattle.std.proofs.Common.{◌∙◌, ap, ◌≤◌, ◌^◌, length}
+use Rattle.std.proofs.Common.{◌∙◌, ap, ◌≤◌, ◌^◌, length, arith}
 use Rattle.std.specs.Io.KnownBytes.{IsAtEnd}
 use Rattle.csi_stores.specs.Public.Counting.{HasRisen}
 use Rattle.csi_orchestration.specs.Public.LinesAnswering.{AnswersInRecord}
@@ -7,14 +7,14 @@ use Rattle.csi_orchestration.specs.declared.lines_serving.handling.ResponderHand
 use Rattle.csi_orchestration.proofs.LinesServed.{reader_stays, reader_failed, served, halted, all_answered}
 use Rattle.csi_orchestration.proofs.lines_serving.serve_lines.Goals as goal
 
-pub read-requires-clause-flushed : goal.read-requires-clause-flushed
-read-requires-clause-flushed g c = ap (λ (h : ResponderHandler _). h.waiting.items) c.new-lines.ensures.handler ∙ c.new.ensures.items
-
-pub read-requires-clause-asks : goal.read-requires-clause-asks
-read-requires-clause-asks g c = λ gone read now consumed rests.
-    c.requires.asks gone read now.store now.out consumed
+pub read-requires : goal.read-requires
+read-requires g c = record {
+  begun = record { buffer = c.new-lines.ensures.buffer; count = c.new-lines.ensures.count; flushed = ap (λ (h : ResponderHandler _). h.waiting.items) c.new-lines.ensures.handler ∙ c.new.ensures.items };
+  room = omega arith;
+  asks = λ gone read now consumed rests. c.requires.asks gone read now.store now.out consumed
     (all_answered (AnswersInRecord g.C.Responder.is_fit g.C.Responder.spells g.C.Responder.parts_of g.C.Responder.answers) g.C.Responder.parts_of g.K.Keep.store g.W.Write.contents _ now read
-    (record { out = c.new.ensures.out; parts = c.new.ensures.parts; items = c.new.ensures.items; committed = c.new.ensures.committed; answers = c.new.ensures.answers }) (rw c.new-lines.ensures.handler at rests))
+    (record { out = c.new.ensures.out; parts = c.new.ensures.parts; items = c.new.ensures.items; committed = c.new.ensures.committed; answers = c.new.ensures.answers }) (rw c.new-lines.ensures.handler at rests));
+}
 
 pub returns-in-Ok-clause-serves : goal.returns-in-Ok-clause-serves
 returns-in-Ok-clause-serves g c =

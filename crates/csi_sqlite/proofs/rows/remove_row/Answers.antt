@@ -1,17 +1,21 @@
-use Rattle.std.proofs.Common.{inl, inr}
+use Rattle.std.proofs.Common.{inl, inr, rules}
 use Rattle.std.proofs.lemmas.Bool.{cases_Bool}
 use Rattle.sqlite.specs.Held.{state}
 use Rattle.csi_sqlite.proofs.RemovingRow.{removes}
 use Rattle.csi_sqlite.proofs.rows.remove_row.Goals as goal
 
-pub returns-clause-removed : goal.returns-clause-removed
-returns-clause-removed g c clean rows has =
-    let old = c.args.transaction.now.conn.now in
-    elim (cases_Bool old.in_transaction) [
-      | inl inside ↦ removes (state g.S.Store old) (state g.S.Store c.execute.new.self.conn.now) c.args.key.now rows c.in_ok-execute.field-0 has
-          (rw c.params-to_sql.ensures at (c.in_ok-execute.ensures.runs clean inside)).0
-      | inr outside ↦ absurd (let ended = (c.in_ok-execute.ensures.ended outside).0 in cc)
-    ]
-
-pub returns-clause-ran : goal.returns-clause-ran
-returns-clause-ran g c clean inside = (c.in_ok-execute.field-0, rw c.params-to_sql.ensures at (c.in_ok-execute.ensures.runs clean inside))
+pub returns : goal.returns
+returns g c =
+    record {
+      same_reference = search rules;
+      changed = λ clean rows has.
+          let old = c.args.transaction.now.conn.now in
+          elim (cases_Bool old.in_transaction) [
+            | inl inside ↦ removes (state g.S.Store old) (state g.S.Store c.execute.new.self.conn.now) c.args.key.now rows c.in_ok-execute.field-0 has
+                (rw c.params-to_sql.ensures at (c.in_ok-execute.ensures.runs clean inside)).0
+            | inr outside ↦ absurd (let ended = (c.in_ok-execute.ensures.ended outside).0 in cc)
+          ];
+      ran = λ clean inside. (c.in_ok-execute.field-0, rw c.params-to_sql.ensures at (c.in_ok-execute.ensures.runs clean inside));
+      refused = search rules;
+      survives = search rules;
+    }

@@ -29,7 +29,7 @@ loop-read-preserved g c =
         c.in-Ok-take.ensures.takes (record { own = c.args.consumer.now; store = c.args.store.now; out = c.args.out.now }) i.0 i.5 (omega (arith, i.3, c.loop-read-test.true, c.split_at.ensures.front_len)),
       );
       room = c.give.auto.piece ∙ c.loop-read.invariant.room;
-      quiet = c.in-Ok.ensures.quiet ∙ c.loop-read.invariant.quiet;
+      quiet = c.in-Ok.ensures.faults ∙ c.loop-read.invariant.quiet;
     }
 
 pub returns-in-Err-take-clause-drives : goal.returns-in-Err-take-clause-drives

@@ -1,13 +1,16 @@
-use Rattle.std.proofs.Common.{◌∙◌, [], ap, sym, subst}
+use Rattle.std.proofs.Common.{◌∙◌, [], ap, sym, subst, arith}
 use Rattle.csi_streams.specs.declared.giving.Writing.{Writing}
 use Rattle.csi_streams.proofs.GivenBytes.{Stream, stream_ended, stream_stopped, writer_ended, writer_told, reader_told}
 use Rattle.csi_streams.proofs.streaming.handle_stream.Goals as goal
 
-pub read-requires-clause-flushed : goal.read-requires-clause-flushed
-read-requires-clause-flushed g c = ap (λ (a : Writing g.row.H.Denot). a.out.items) c.new-frames.ensures.handler ∙ c.new-out.ensures.items
-
-pub read-requires-clause-asks : goal.read-requires-clause-asks
-read-requires-clause-asks g c = λ gone read now consumed rests. tt
+pub read-requires : goal.read-requires
+read-requires g c =
+    let empty = ap (λ (a : Writing g.row.H.Denot). a.out.items) c.new-frames.ensures.handler ∙ c.new-out.ensures.items in
+    record {
+      begun = record { splitter = c.new-frames.ensures.splitter; count = c.new-frames.ensures.count; flushed = empty };
+      room = omega arith;
+      asks = λ gone read now consumed rests. tt;
+    }
 
 pub returns-in-Ok-clause-streams : goal.returns-in-Ok-clause-streams
 returns-in-Ok-clause-streams g c =

@@ -5,17 +5,15 @@ use Rattle.csi_streams.proofs.Reaching.{begun}
 use Rattle.csi_streams.proofs.FrameEnding.{rests_at_frames, read_whole, read_short, read_stopped}
 use Rattle.csi_streams.proofs.frames.Frames.read.Goals as goal
 
-pub drive-requires-clause-begun : goal.drive-requires-clause-begun
-drive-requires-clause-begun g c =
+pub drive-requires : goal.drive-requires
+drive-requires g c =
     let h = g.H.FrameHandler in
     let first : State (Frames g.row.H.Denot) g.row.S.Denot g.row.O.Denot = record { own = c.args.self.now; store = c.args.store.now; out = c.args.out.now } in
-    begun h.handles h.flushes h.is_flushed first c.requires.splitter c.requires.count c.requires.flushed
-
-pub drive-requires-clause-asks : goal.drive-requires-clause-asks
-drive-requires-clause-asks g c = λ gone read now consumed rests.
-    let h = g.H.FrameHandler in
-    let first : State (Frames g.row.H.Denot) g.row.S.Denot g.row.O.Denot = record { own = c.args.self.now; store = c.args.store.now; out = c.args.out.now } in
-    c.requires.asks gone read (inner now) consumed (rests_at_frames h.handles h.flushes h.is_flushed h.stops first read now rests)
+    record {
+      begun = begun h.handles h.flushes h.is_flushed first c.requires.begun.splitter c.requires.begun.count c.requires.begun.flushed;
+      room = c.requires.room;
+      asks = λ gone read now consumed rests. c.requires.asks gone read (inner now) consumed (rests_at_frames h.handles h.flushes h.is_flushed h.stops first read now rests);
+    }
 
 pub returns-in-Ok-end-clause-reads : goal.returns-in-Ok-end-clause-reads
 returns-in-Ok-end-clause-reads g c =

@@ -1,6 +1,6 @@
 use Rattle.std.proofs.Common.{◌≡◌, ◌≤◌, ◌++◌, List, ℕ, length}
 use Rattle.std.specs.Io.KnownBytes.{Appends}
-use Rattle.csi_stores.proofs.output.write_all.Given as goal
+use Rattle.csi_stores.proofs.output.write_out.Given as goal
 
 -- a front was written, and the rest is still to come
 abbrev pub invariant-loop-rest : goal.invariant-loop-rest
