@@ -10,8 +10,8 @@ ghost use Rattle.csi_controller.specs.Public.Core.{IsUndoing, next_shown};
 ghost use Rattle.csi_controller.specs.Public.Making.{new_line};
 ghost use Rattle.csi_controller.specs.Public.OneRow.{row_shown};
 
-use crate::controller::changes::change;
-use crate::controller::counts::MAX_NODES;
+use crate::controller::changes::{held, take_out};
+use crate::controller::counts::{MAX_NODES, recount};
 use crate::controller::create_lines::{argument_fault, create_line};
 use crate::controller::new_row::{done, new_row};
 use crate::controller::row_table::{delete_line, publish_line, unpublish_line};
@@ -227,7 +227,33 @@ impl Table for ControllerTable {
         alloc: Global,
         call: &CallRef<'_>,
     ) -> Result<(), CoreFault> {
-        change(row, self.config.nodes(), &mut self.counts, alloc, call)
+        match call {
+            CallRef::DeleteVolume { .. } => {
+                row.live = false;
+                Ok(())
+            }
+            CallRef::ControllerPublishVolume {
+                node,
+                capability,
+                readonly,
+                ..
+            } => {
+                let wanted = NodeUse {
+                    node,
+                    capability: *capability,
+                    readonly: *readonly,
+                };
+                row.holdings.push(held(alloc, wanted)?)?;
+                recount(&mut self.counts, &self.config, node, true);
+                Ok(())
+            }
+            CallRef::ControllerUnpublishVolume { node, .. } => {
+                take_out(&mut row.holdings, node);
+                recount(&mut self.counts, &self.config, node, false);
+                Ok(())
+            }
+            _ => Ok(()),
+        }
     }
 
     fn absent(

@@ -7,7 +7,7 @@ ghost use Rattle.csi_controller.specs.Public.OneRow.{row_shown};
 
 use super::holdings::is_held_at;
 use crate::row::ControllerRow;
-use csi_types::NodeSlots;
+use csi_types::{Config, NodeSlots};
 
 /// The most nodes that are configured.
 pub const MAX_NODES: usize = 64;
@@ -46,10 +46,11 @@ pub fn counted(nodes: &[NodeSlots], rows: &[ControllerRow]) -> [u64; MAX_NODES]
 }
 
 /// Counts a volume that came to be held at a node, or ceased to be.
-pub fn recount(counts: &mut [u64; MAX_NODES], nodes: &[NodeSlots], node: &str, is_held: bool)
-    requires { length nodes.now ≤ 64 }
-    ensures { counts.new ≡ recounted nodes.now (Some (node.now, is_held)) counts.old }
+pub fn recount(counts: &mut [u64; MAX_NODES], config: &Config, node: &str, is_held: bool)
+    ensures { counts.new ≡ recounted config.now.nodes (Some (node.now, is_held)) counts.old }
 {
+    config.fit_law();
+    let nodes = config.nodes();
     if let Some(place) = place_of_node(nodes, node) {
         let count = counts[place];
         counts[place] = if is_held {
