@@ -1,5 +1,5 @@
 -- The map of names, kept in the order of the rows: what a look-up finds, and what stays after a change.
-use Rattle.std.proofs.Common.{◌≡◌, ◌<◌, ◌+◌, ℕ, Bool, true, false, cond, not, List, [], ◌∷◌, ◌++◌, get_or, map, refl, sym, ◌∙◌, ap, subst}
+use Rattle.std.proofs.Common.{◌≡◌, ◌+◌, ℕ, Bool, true, false, cond, not, List, [], ◌∷◌, ◌++◌, get_or, map, refl, sym, ◌∙◌, ap}
 use Rattle.std.specs.Prelude.{Some, None, IsOk, OnOk, Result, option_map, filter, find, position, nat_lt, nat_eq, String, ◌==◌}
 use Rattle.std.specs.Cmp.Lexicographic.{pointwise}
 use Rattle.std.specs.String.{string_bytes, string_eq}
@@ -14,11 +14,9 @@ use Rattle.csi_types.proofs.Filters.{filter-of_map}
 use Rattle.csi_types.proofs.Members.{all_of}
 use Rattle.csi_types.proofs.Places.{FirstAt-find, FirstAt-position}
 use Rattle.csi_types.proofs.Searches.{find-of_map}
-use Rattle.csi_fence.specs.Public.Rows.{AreRising, stays_in, IsPlaceOf}
+use Rattle.csi_fence.specs.Public.Rows.{AreRising, stays_in}
 use Rattle.csi_fence.proofs.RisingRows.{rows_rise}
 use Rattle.csi_fence.proofs.KeptRows.{filter-alike}
-use Rattle.csi_fence.proofs.PlacedRows.{found-at}
-use Rattle.csi_fence.proofs.RowsThere.{shown-at}
 use Rattle.csi_controller.specs.Public.Names.{by_name, by_text}
 use Rattle.csi_controller.specs.Public.OneRow.{RowShown, row_shown}
 use Rattle.csi_controller.specs.Public.Plan.{controller_plan}

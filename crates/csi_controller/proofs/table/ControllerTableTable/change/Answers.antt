@@ -82,4 +82,3 @@ returns-in_default-clause-agrees c =
     let is : new ≡ row_changed row (call_change call) = search rules in
     let again : table.counts ≡ recounted table.config.nodes (moved (call_change call)) table.counts = search rules in
     change-fits table row new call c.requires.own c.requires.done.0 c.requires.done.2 is table.counts again
-

@@ -68,4 +68,3 @@ returns-in-ControllerUnpublishVolume-clause-told c = λ rows fits.
     rw (c.in-ControllerUnpublishVolume.is, id)
     (told-line (Detaches row.volume.id c.in-ControllerUnpublishVolume.node.now) c.unpublish_line.result refl ∙ sym (ap told_in c.unpublish_line.ensures.line)) in
     told ∙ line-counted table.config rows table.counts row call c.requires.own fits.counted
-
