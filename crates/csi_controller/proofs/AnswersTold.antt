@@ -1,7 +1,7 @@
 -- What a controller answers to a call, and what that changes, is told by what its rows answer behind the fence.
 use Rattle.std.proofs.Common.{◌≡◌, ◌<◌, ◌≤◌, ◌%◌, ◌^◌, ℕ, List, map, Bool, true, false, cond, not, refl, sym, ◌∙◌, ap, subst, arith}
-use Rattle.std.specs.Prelude.{Option, Some, None, option_map, filter, slice_get, ◌==◌, Result, IsTrue}
-use Rattle.std.proofs.lemmas.Bool.{ne_eqb}
+use Rattle.std.specs.Prelude.{Option, Some, None, option_map, filter, slice_get, ◌==◌, Result, Ok, Err, IfOk, OnErr, IsOk, IsTrue}
+use Rattle.std.proofs.lemmas.Bool.{ne_eqb, true≢false}
 use Rattle.std.proofs.lemmas.Bool.Decides.{nat_tests}
 use Rattle.std.proofs.lemmas.List.Elements.{recursion_from_All}
 use Rattle.std.proofs.lemmas.Option.{same_Some, slice_get-map}
@@ -10,16 +10,21 @@ use Rattle.csi_types.proofs.Filters.{filter-of_map}
 use Rattle.csi_types.proofs.Options.{some-from_map, some_is_not_none}
 use Rattle.csi_types.proofs.Searches.{find-of_map}
 use Rattle.csi_types.specs.declared.call.Call.{Call}
-use Rattle.csi_types.specs.declared.call.Party.TheVariants.{Controller}
+use Rattle.csi_types.specs.declared.call.Party.TheVariants.{Controller, Node}
 use Rattle.csi_types.specs.declared.number.Number.{Number}
 use Rattle.csi_types.specs.declared.reply.Reply.{Reply}
 use Rattle.csi_types.specs.Model.Call.{kind_of}
 use Rattle.csi_types.specs.Model.Config.{Config}
-use Rattle.csi_types.specs.Public.Call.{is_party_of}
+use Rattle.csi_types.specs.Public.Call.{is_node_kind, is_party_of}
+use Rattle.csi_types.specs.Public.Frame.{IsAllowed}
+use Rattle.csi_types.specs.Model.Frame.{Frame}
+use Rattle.csi_types.specs.Model.Replies.{call_frame}
+use Rattle.csi_types.specs.declared.call.Party.{Party}
+use Rattle.csi_types.specs.declared.frame.Body.TheVariants as bodies
 use Rattle.csi_fence.specs.declared.answer.Answer.{Answer}
 use Rattle.csi_fence.specs.declared.fault.CoreFault.{CoreFault}
 use Rattle.csi_fence.specs.Model.Fence.{Kept, begins, is_over}
-use Rattle.csi_fence.specs.Model.Fenced.{Fenced, answered_in, in_session}
+use Rattle.csi_fence.specs.Model.Fenced.{Fenced, answered_in, in_session, unanswered}
 use Rattle.csi_fence.specs.Public.Delivery.{last_of}
 use Rattle.csi_fence.specs.Public.Fence.{IsFresh}
 use Rattle.csi_fence.specs.Public.Rows.{AreKept, Answers, IsAnswered, Puts, PutsAt, PutsNone, rows_machine}
@@ -28,18 +33,46 @@ use Rattle.csi_fence.proofs.PutRows.{put-found, put-others, row_of}
 use Rattle.csi_fence.proofs.Simulating.{answered-alike}
 use Rattle.csi_controller.specs.declared.row.ControllerRow.{ControllerRow}
 use Rattle.csi_controller.specs.Model.Core.{ControllerParts, Shows}
-use Rattle.csi_controller.specs.Model.Fenced.{begun, controller_with, kept_for}
+use Rattle.csi_controller.specs.Model.Fenced.{begun, controller_with, fenced, kept_for}
 use Rattle.csi_controller.specs.Model.State.{ControllerState}
-use Rattle.csi_controller.specs.Public.Core.{IsUndoing, next_shown}
+use Rattle.csi_controller.specs.Public.Core.{IsAnsweredOk, IsCurrent, IsUndoing, next_shown}
 use Rattle.csi_fence.specs.Public.Repeats.{IsPlainRepeat}
 use Rattle.csi_controller.specs.Public.RowsLaw.{Changes, ChangesAt, row_by_id, staying}
 use Rattle.csi_controller.specs.Public.Views.{IsCopyOf}
-use Rattle.csi_controller.specs.Private.Answers.{AnswersOwn, IsCallAnswered}
+use Rattle.csi_controller.specs.Public.Answers.{AnswersCall}
+use Rattle.csi_controller.specs.Public.Step.{answer_frame}
 use Rattle.csi_controller.specs.Public.OneRow.{RowShown, row_shown}
 use Rattle.csi_controller.specs.Public.Plan.{Fits, IsSoundBy, controller_plan}
 use Rattle.csi_controller.proofs.RowsMachine.{begun-shows, begun-sound, carried-alike, filter-twice, kept-same, rows-simulate}
 use Rattle.csi_controller.proofs.ShowingLaw.{next-by}
 use Rattle.csi_controller.proofs.ShownRows.{AreRowsSound, ControllerRows, RowsShowAll, held-shown, volumes-shown}
+
+-- ---- what a controller answers to a call of its own
+
+-- from a state, the controller gave this frame and has these parts now, as the definitions have it
+pub record IsFencedAnswer (new : ControllerParts) (frame : Frame) (answer : Fenced ControllerState) : Type 0 where
+  pub reply : answer.reply ≡ Some frame
+  pub shown : Shows new answer.state
+
+-- the answer is what the definitions give, from each state that it showed, and it shows the state after it; the answer
+-- says where the row is that was changed
+pub record IsCallAnswered (old new : ControllerParts) (number : Number) (call : Call) (answer : Answer) : Type 0 where
+  pub told : (state : ControllerState) → Shows old state → IsFencedAnswer new (answer_frame number answer) (answered_in (controller_with old.config) state number call)
+  pub changes : ChangesAt answer.row number old new
+  pub allowed : IsAllowed Controller (bodies.Reply answer.kind answer.reply)
+  pub config : new.config ≡ old.config
+
+-- it shows each state that it showed
+pub record IsLeftSo (old new : ControllerParts) : Type 0 where
+  pub shown : (state : ControllerState) → Shows old state → Shows new state
+  pub config : new.config ≡ old.config
+
+-- it answered this: an `Ok` is the definitions' answer, an `Err` changes nothing, and what takes no memory succeeds
+pub record AnswersOwn (old new : ControllerParts) (number : Number) (call : Call) (result : Result Answer CoreFault) : Type 0 where
+  pub ok : IfOk result (λ answer. IsCallAnswered old new number call answer)
+  pub err : OnErr result (IsLeftSo old new)
+  pub repeated : (state : ControllerState) → Shows old state → IsPlainRepeat state.session (kept_for call state) number → IsOk result
+  pub undone : (state : ControllerState) → Shows old state → IsUndoing call → IsAnsweredOk old.config state number call → IsOk result
 
 -- ---- a controller's parts as rows
 
@@ -222,3 +255,93 @@ own-answers old new number call agrees empty result party sound config from to a
 -- rows that are kept keep these rules
 pub rows-sound : (parts : ControllerParts) (names : List (List ℕ × ℕ)) (counts : List ℕ) (empty : ℕ) → AreKept controller_plan IsSoundBy (Fits parts.config.nodes names counts parts.next_id) (rows_in parts) empty → AreRowsSound (rows_in parts)
 rows-sound parts names counts empty kept = record { rising = kept.rising; unique = kept.fits.unique; each = recursion_from_All (IsSoundBy (next_shown parts.next_id)) (map row_shown parts.rows) kept.each }
+
+-- ---- what a controller answers to any call
+
+-- a kind is not both a node's and the controller's
+one-party : (b : Bool) → IsTrue (not b) → IsTrue b → ⊥
+one-party true own other = true≢false (sym own)
+one-party false own other = true≢false (sym other)
+
+-- a call for a node gets nothing of the controller, whatever names it
+other-frame : (config : Config) (state : ControllerState) (number : Number) (party : Party) (call : Call) → is_party_of (kind_of call) Controller ≡ false → IsAllowed party (bodies.Call call)
+    → fenced config state (call_frame number party call) ≡ unanswered state
+other-frame config state number Controller call other allowed = absurd (true≢false (sym allowed ∙ other))
+other-frame config state number (Node id) call other allowed = refl
+
+-- a call for the controller gets its answer
+own-frame : (config : Config) (state : ControllerState) (number : Number) (party : Party) (call : Call) → IsTrue (is_party_of (kind_of call) Controller) → IsAllowed party (bodies.Call call)
+    → fenced config state (call_frame number party call) ≡ answered_in (controller_with config) state number call
+own-frame config state number Controller call own allowed = refl
+own-frame config state number (Node id) call own allowed = absurd (one-party (is_node_kind (kind_of call)) own allowed)
+
+-- a call for a node changes nothing
+pub other-call : (parts : ControllerParts) (number : Number) (call : Call) → is_party_of (kind_of call) Controller ≡ false → IsCurrent parts.session parts.rows
+    → AnswersCall (Unit {0}) parts parts number call (Ok None)
+other-call parts number call other current = record {
+  reply = λ state party shown allowed fit. sym (ap (λ (f : Fenced ControllerState). f.reply) (other-frame parts.config state number party call other allowed));
+  state = λ state party shown allowed fit. subst (λ (f : Fenced ControllerState). Shows parts f.state) (sym (other-frame parts.config state number party call other allowed)) shown;
+  changes = tt;
+  current = current;
+  unanswered = λ none. refl;
+  allowed = tt;
+  config = refl;
+  err = λ state shown. tt;
+  unfit = λ none. absurd (none tt);
+  others = λ others. refl;
+  undone = λ state shown undoing ok. refl;
+  repeated = λ state shown repeat. refl;
+}
+
+-- a call for the controller was answered
+pub own-call : (old new : ControllerParts) (number : Number) (call : Call) (answer : Answer) → IsTrue (is_party_of (kind_of call) Controller) → IsCurrent new.session new.rows
+    → AnswersOwn old new number call (Ok answer) → AnswersCall (Unit {0}) old new number call (Ok (Some answer))
+own-call old new number call answer own current answers = record {
+  reply = λ state party shown allowed fit. sym (ap (λ (f : Fenced ControllerState). f.reply) (own-frame old.config state number party call own allowed) ∙ (answers.ok.told state shown).reply);
+  state = λ state party shown allowed fit. subst (λ (f : Fenced ControllerState). Shows new f.state) (sym (own-frame old.config state number party call own allowed)) (answers.ok.told state shown).shown;
+  changes = answers.ok.changes;
+  current = current;
+  unanswered = λ none. cc;
+  allowed = answers.ok.allowed;
+  config = answers.ok.config;
+  err = λ state shown. tt;
+  unfit = λ none. absurd (none tt);
+  others = λ others. absurd (one-party (is_party_of (kind_of call) Controller) others own);
+  undone = λ state shown undoing ok. refl;
+  repeated = λ state shown repeat. refl;
+}
+
+-- or refused memory
+pub own-refused : (old new : ControllerParts) (number : Number) (call : Call) (fault : CoreFault) → IsTrue (is_party_of (kind_of call) Controller) → IsCurrent new.session new.rows
+    → AnswersOwn old new number call (Err fault) → AnswersCall (Unit {0}) old new number call (Err fault)
+own-refused old new number call fault own current answers = record {
+  reply = λ state party shown allowed fit. tt;
+  state = λ state party shown allowed fit. tt;
+  changes = tt;
+  current = current;
+  unanswered = λ none. cc;
+  allowed = tt;
+  config = answers.err.config;
+  err = answers.err.shown;
+  unfit = λ none. absurd (none tt);
+  others = λ others. absurd (one-party (is_party_of (kind_of call) Controller) others own);
+  undone = answers.undone;
+  repeated = answers.repeated;
+}
+
+-- a call with a text that doesn't fit gets nothing, and changes nothing
+pub unfit-call : (is_fit : Type 0) (parts : ControllerParts) (number : Number) (call : Call) → (is_fit → ⊥) → IsCurrent parts.session parts.rows → AnswersCall is_fit parts parts number call (Ok None)
+unfit-call is_fit parts number call none current = record {
+  reply = λ state party shown allowed fit. absurd (none fit);
+  state = λ state party shown allowed fit. absurd (none fit);
+  changes = tt;
+  current = current;
+  unanswered = λ silent. refl;
+  allowed = tt;
+  config = refl;
+  err = λ state shown. tt;
+  unfit = λ unfit. (refl, refl);
+  others = λ others. refl;
+  undone = λ state shown undoing ok. refl;
+  repeated = λ state shown repeat. refl;
+}

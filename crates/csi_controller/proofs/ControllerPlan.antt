@@ -1,7 +1,6 @@
 -- What is kept beside a controller's rows fits them after each change.
-use Rattle.std.proofs.Common.{◌≡◌, ℕ, ◌+◌, ◌<◌, ◌≤◌, List, [], ◌∷◌, ◌++◌, map, length, set, Bool, false, not, refl, sym, ◌∙◌, ap, subst, arith}
-use Rattle.std.specs.Prelude.{All, Some, None, filter, find, slice_get, Result, OnOk}
-use Rattle.std.specs.declared.result.Result.TheVariants as results
+use Rattle.std.proofs.Common.{◌≡◌, ℕ, ◌+◌, ◌<◌, ◌≤◌, List, [], ◌∷◌, ◌++◌, map, length, set, Bool, true, false, not, refl, sym, ◌∙◌, ap, subst, arith}
+use Rattle.std.specs.Prelude.{All, Some, None, filter, find, slice_get}
 use Rattle.std.proofs.lemmas.Bool.{true≢false, not-true}
 use Rattle.std.proofs.lemmas.List.{length-append, map_push}
 use Rattle.std.proofs.lemmas.List.Elements.{recursion_from_All}
@@ -9,21 +8,26 @@ use Rattle.csi_types.proofs.Each.{each-append_one, each-at, each-filter, each-we
 use Rattle.csi_types.proofs.Filters.{filter-no_longer}
 use Rattle.csi_types.proofs.Places.{AtMostOne-append, AtMostOne-filter}
 use Rattle.csi_types.proofs.Equality.{same_text-tells}
+use Rattle.csi_types.specs.declared.call.Call.{Call}
 use Rattle.csi_types.specs.declared.config.NodeSlots.{NodeSlots}
 use Rattle.csi_types.specs.Model.Same.{same_text}
 use Rattle.csi_fence.specs.Public.Rows.{put_row, stays_in}
 use Rattle.csi_fence.proofs.StayingRows.{goes-empty}
 use Rattle.csi_controller.specs.declared.row.NodeHolding.{NodeHolding}
-use Rattle.csi_controller.specs.Model.State.{Volume}
+use Rattle.csi_controller.specs.Model.State.{Volume, is_row_for}
 use Rattle.csi_controller.specs.Model.Table.{Change, Stays, Makes, Ends, Attaches, Detaches}
 use Rattle.csi_controller.specs.Private.Counts.{recounted}
-use Rattle.csi_controller.specs.Public.Names.{by_name}
-use Rattle.csi_controller.specs.Public.OneRow.{RowShown, row_changed}
+use Rattle.csi_controller.specs.Public.Core.{next_shown}
+use Rattle.csi_controller.specs.declared.table.ControllerTable.{ControllerTable}
+use Rattle.csi_controller.specs.Public.Names.{by_name, by_text}
+use Rattle.csi_controller.specs.Public.OneRow.{RowShown, call_change, row_changed}
 use Rattle.csi_controller.specs.Private.OneRow.{CanChange, moved}
-use Rattle.csi_controller.specs.Public.Plan.{Fits, IsFree, IsSoundBy, controller_plan}
+use Rattle.csi_controller.specs.Public.Plan.{Fits, IsFree, IsSoundBy, controller_plan, fits_table, is_full_by, told_at}
 use Rattle.csi_controller.specs.Private.PlanLaws.{at-got, fits-set, same-volume}
 use Rattle.csi_controller.proofs.Counts.{changed-counted, counted-fewer, made-counted}
+use Rattle.csi_controller.proofs.RowsTold.{can-told}
 use Rattle.csi_controller.proofs.ShownRows.{put-last}
+use Rattle.csi_controller.proofs.SoundRows.{sound-changed}
 
 -- a row that doesn't stay was deleted
 pub gone-dead : (session : ℕ) (row : RowShown) → stays_in controller_plan session row ≡ false → row.volume.is_live ≡ false
@@ -79,7 +83,21 @@ fits-left nodes names counts n rows q fits gone = record {
   below = fits.below;
 }
 
--- what follows from two facts of an `Ok`
-pub on-both : {T E P Q R : Type 0} (r : Result T E) → (P → Q → R) → OnOk r P → OnOk r Q → OnOk r R
-on-both (results.Ok x) f p q = f p q
-on-both (results.Err e) f p q = tt
+-- ---- a call that a row is told to change
+
+module _ (table : ControllerTable) (row new : RowShown) (call : Call) (own : is_row_for call row.volume ≡ true) (others : List RowShown) (told : (told_at table.config others row call).is_done ≡ true)
+    (is : new ≡ row_changed row (call_change call)) where
+  -- it can be changed so
+  can : CanChange row (call_change call)
+  can = can-told table.config (is_full_by table.config.nodes others) row call own told
+
+  -- it keeps the rules of a row
+  pub change-sound : IsSoundBy (next_shown table.next_id) row → IsSoundBy (next_shown table.next_id) new
+  change-sound sound = subst (IsSoundBy (next_shown table.next_id)) (sym is) (sound-changed (next_shown table.next_id) row (call_change call) sound can)
+
+  -- and what the table keeps beside the rows fits them, once it is counted again for the node that the change moves
+  pub change-fits : (counts : List ℕ) → counts ≡ recounted table.config.nodes (moved (call_change call)) table.counts → (rows : List RowShown) (place : ℕ) → fits_table table rows → slice_get rows place ≡ Some row
+      → Fits table.config.nodes (map by_text table.ids.entries) counts table.next_id (set rows place new)
+  change-fits counts again rows place fits at =
+      subst (λ (after : List ℕ). Fits table.config.nodes (map by_text table.ids.entries) after table.next_id (set rows place new)) (sym again)
+      (fits-changed table.config.nodes (map by_text table.ids.entries) table.counts table.next_id rows place row new (call_change call) fits at can is)

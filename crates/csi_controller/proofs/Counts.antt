@@ -158,9 +158,25 @@ pub found-configured : (node : List ℕ) (nodes : List NodeSlots) (place : ℕ) 
 found-configured node nodes place entry at is =
     sym (has_node-any node nodes ∙ any-find (λ (e : NodeSlots). same_text e.id node) nodes ∙ ap is_some (entry-found node nodes place entry at is))
 
+-- so it is where these are the nodes of a configuration
+pub configured-at : (node : List ℕ) (seen nodes : List NodeSlots) (place : ℕ) (entry : NodeSlots) → seen ≡ nodes → Some place ≡ place_of node seen → entry ≡ get_or seen place entry → has_node node nodes ≡ true
+configured-at node seen nodes place entry same at is = sym (found-configured node seen place entry at is ∙ ap (has_node node) same)
+
+-- and by these counts it takes no more volumes where its own is none below its slots
+pub full-at : (node : List ℕ) (seen nodes : List NodeSlots) (counts : List ℕ) (place : ℕ) (entry : NodeSlots) → seen ≡ nodes → Some place ≡ place_of node seen → entry ≡ get_or seen place entry
+    → is_node_full nodes counts node ≡ nat_le entry.slots (slice_index counts place)
+full-at node seen nodes counts place entry same at is =
+    ap (λ (ns : List NodeSlots). is_node_full ns counts node) (sym same)
+    ∙ ap (λ (found : Option ℕ). is_full_with (count_at_place found counts) (find (λ (e : NodeSlots). same_text e.id node) seen)) (sym at)
+    ∙ ap (is_full_with (slice_index counts place)) (entry-found node seen place entry at is)
+
 -- a node that isn't found isn't configured
 pub lost-configured : (node : List ℕ) (nodes : List NodeSlots) → None ≡ place_of node nodes → false ≡ has_node node nodes
 lost-configured node nodes none = sym (has_node-any node nodes ∙ not-configured node nodes none)
+
+-- so it is where these are the nodes of a configuration
+pub lost-at : (node : List ℕ) (seen nodes : List NodeSlots) → seen ≡ nodes → None ≡ place_of node seen → has_node node nodes ≡ false
+lost-at node seen nodes same none = sym (lost-configured node seen none ∙ ap (has_node node) same)
 
 -- ---- what is taken out of a row
 

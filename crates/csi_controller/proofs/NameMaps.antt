@@ -1,5 +1,5 @@
 -- The map of names, kept in the order of the rows: what a look-up finds, and what stays after a change.
-use Rattle.std.proofs.Common.{◌≡◌, ◌<◌, ◌+◌, ℕ, Bool, true, false, cond, not, List, [], ◌∷◌, ◌++◌, get_or, map, refl, sym, ◌∙◌, ap, subst}
+use Rattle.std.proofs.Common.{◌≡◌, ◌+◌, ℕ, Bool, true, false, cond, not, List, [], ◌∷◌, ◌++◌, get_or, map, refl, sym, ◌∙◌, ap}
 use Rattle.std.specs.Prelude.{Some, None, IsOk, OnOk, Result, option_map, filter, find, position, nat_lt, nat_eq, String, ◌==◌}
 use Rattle.std.specs.Cmp.Lexicographic.{pointwise}
 use Rattle.std.specs.String.{string_bytes, string_eq}
@@ -12,11 +12,11 @@ use Rattle.indexmap.proofs.CallerLemmas.{insert_entry-new}
 use Rattle.indexmap.specs.IndexMap.{IndexMap, insert_entry}
 use Rattle.csi_types.proofs.Filters.{filter-of_map}
 use Rattle.csi_types.proofs.Members.{all_of}
-use Rattle.csi_fence.specs.Public.Rows.{AreRising, stays_in, IsPlaceOf}
+use Rattle.csi_types.proofs.Places.{FirstAt-find, FirstAt-position}
+use Rattle.csi_types.proofs.Searches.{find-of_map}
+use Rattle.csi_fence.specs.Public.Rows.{AreRising, stays_in}
 use Rattle.csi_fence.proofs.RisingRows.{rows_rise}
 use Rattle.csi_fence.proofs.KeptRows.{filter-alike}
-use Rattle.csi_fence.proofs.PlacedRows.{found-at}
-use Rattle.csi_fence.proofs.RowsThere.{shown-at}
 use Rattle.csi_controller.specs.Public.Names.{by_name, by_text}
 use Rattle.csi_controller.specs.Public.OneRow.{RowShown, row_shown}
 use Rattle.csi_controller.specs.Public.Plan.{controller_plan}
@@ -87,10 +87,12 @@ new-name q m rows key id is same none =
 -- ---- what stays
 
 -- the row at the place of an id is the one that is found by it
-pub found-got : (rows : List ControllerRow) (id place : ℕ) (row : ControllerRow) → AreRising controller_plan.id (map row_shown rows) → IsPlaceOf controller_plan.id (map row_shown rows) id place → row ≡ get_or rows place row
+pub found-got : (rows : List ControllerRow) (id place : ℕ) (row : ControllerRow) → Some place ≡ position (λ (r : RowShown). r.volume.id == id) (map row_shown rows) → row ≡ get_or rows place row
     → find (λ (r : RowShown). r.volume.id == id) (map row_shown rows) ≡ Some (row_shown row)
-found-got rows id place row rising at is =
-    found-at controller_plan.id (map row_shown rows) id place rising at ∙ shown-at row_shown rows place row is (subst (λ (n : ℕ). place < n) (length-map rows row_shown) at.within)
+found-got rows id place row at is =
+    let p : RowShown → Bool = λ r. r.volume.id == id in
+    let q : ControllerRow → Bool = λ r. r.id == id in
+    find-of_map p row_shown rows ∙ ap (option_map row_shown) (FirstAt-find q rows place row (FirstAt-position q rows place row (sym (at ∙ position-map row_shown p q rows (λ r. refl))) is))
 
 -- the names of the rows that stay
 pub names-kept : {Z : Type 0} (session : ℕ) (old new : List (String Z × ℕ)) (rows : List RowShown) → AreRising controller_plan.id rows → map by_text old ≡ map by_name rows → new ≡ filter (λ e. is_kept session e.1 rows) old

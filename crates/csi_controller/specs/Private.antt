@@ -5,4 +5,3 @@ pub mod Plan
 pub mod PlanLaws
 pub mod SoundRow
 pub mod Judging
-pub mod Answers

@@ -3,6 +3,7 @@ pub mod Fenced
 pub mod Laws
 pub mod Core
 pub mod Step
+pub mod Answers
 pub mod Views
 pub mod WithoutSession
 pub mod Exclusive

@@ -1,13 +1,10 @@
 //! The controller plugin.
-ghost use Rattle.std.specs.Prelude.{◌≡◌, ◌%◌, ◌^◌, None, Ok, IfOk, IfSome, OnOk, OnErr, IsOk, IsTrue, not, option_map, find, slice_get, ◌==◌};
+ghost use Rattle.std.specs.Prelude.{◌≡◌, ◌%◌, ◌^◌, None, Ok, IfOk, OnOk, OnErr, IsOk, option_map, find, slice_get, ◌==◌};
 ghost use Rattle.std.specs.Option.{option_copied};
 ghost use Rattle.csi_types.specs.declared.call.Call.{Call as OneCall};
-ghost use Rattle.csi_types.specs.declared.call.Party.{Party as OneParty};
-ghost use Rattle.csi_types.specs.Model.Call.{kind_of};
-ghost use Rattle.csi_types.specs.Public.Call.{is_party_of};
 ghost use Rattle.csi_types.specs.Public.Frame.{IsAllowed};
 ghost use Rattle.csi_types.specs.Public.Lent.{lent_call, HasFitTexts};
-ghost use Rattle.csi_types.specs.Model.Replies.{call_frame};
+ghost use Rattle.csi_types.specs.Model.Replies.{reply_frame};
 ghost use Rattle.csi_controller.specs.Public.Core.{AreSoundRows, IsCurrent};
 
 mod attached;
@@ -19,7 +16,6 @@ mod listing;
 pub(crate) mod new_row;
 mod readers;
 pub(crate) mod row_table;
-mod step;
 pub(crate) mod without_row;
 
 use crate::catalog::Catalog;
@@ -29,9 +25,20 @@ use crate::row::ControllerRow;
 use crate::table::ControllerTable;
 use attached::attachments;
 use csi_fence::{Answer, CoreFault, Rows};
-use csi_types::{Body, CallRef, Config, Frame, Holding, Name, Number, Party, VolumeId};
+use csi_types::{
+    Body, CallRef, CapabilityList, CapabilityRef, Config, Frame, Holding, Kind, Name, Number,
+    Party, Reply, VolumeId,
+};
 use std::alloc::Global;
 use std::marker::Model;
+
+// The frame of a reply. It takes no memory.
+fn frame_of(number: Number, kind: Kind, reply: Reply) -> Frame
+    requires { IsAllowed Party.Controller (Body.Reply kind reply) }
+    ensures { result ≡ reply_frame number Party.Controller kind reply }
+{
+    Frame::reply(number, Party::Controller, kind, reply).unwrap()
+}
 
 /// The controller plugin of CSI's spec.md, "Controller Service RPC": the volumes that it made, the nodes at
 /// which each is published, the last call that it answered for each, and the greatest session of which a call came. A contract
@@ -58,7 +65,7 @@ impl Controller {
     ghost use Rattle.csi_controller.specs.Model.Fenced.{fenced, kept_for};
     ghost use Rattle.csi_controller.specs.Public.Raised.{raised};
     ghost use Rattle.csi_fence.specs.Public.Repeats.{IsPlainRepeat};
-    ghost use Rattle.csi_controller.specs.Public.Step.{answer_frame};
+    ghost use Rattle.csi_controller.specs.Public.Answers.{AnswersCall};
     ghost use Rattle.csi_types.specs.Model.Members.{EachTwo};
     ghost use Rattle.csi_controller.specs.Public.Views.{shown_if_live, attached_holdings, IsHeldBefore, HasHoldingsOf, IsCopyOf, IsRowOf};
     ghost use Rattle.csi_controller.specs.Model.Core.{Shows};
@@ -94,7 +101,18 @@ impl Controller {
         ensures repeated { (state : ControllerState) (call : OneCall) → Shows self.old state → frame.now.body ≡ Body.Call call
             → IsPlainRepeat state.session (kept_for call state) frame.now.number → IsOk result }
     {
-        step::step(&mut self.rows, frame)
+        let _rows = &self.rows;
+        let Body::Call(call) = frame.body() else {
+            return Ok(None);
+        };
+        // the proof has to be told the types of a lent call's parts
+        let _parts: Option<(&CapabilityList, CapabilityRef<'_>)> = None;
+        let number = frame.number();
+        match self.answer_any(number, &call.lend()) {
+            Ok(Some(answer)) => Ok(Some(frame_of(number, answer.kind, answer.reply))),
+            Ok(None) => Ok(None),
+            Err(fault) => Err(fault),
+        }
     }
 
     /// Answers a call as `step` answers a frame of it, by the kind and the reply that the frame of the answer has (those that were
@@ -107,35 +125,36 @@ impl Controller {
         number: Number,
         call: &CallRef<'_>,
     ) -> Result<Option<Answer>, CoreFault>
-        // what a frame of the call gets, for any plugin that it is for
-        ensures reply { (state : ControllerState) (party : OneParty) → Shows self.old state → IsAllowed party (Body.Call (lent_call call.now)) →
-            HasFitTexts (lent_call call.now)
-            → IfOk result (λ answer. option_map (answer_frame number) answer ≡
-            (fenced self.old.config state (call_frame number party (lent_call call.now))).reply) }
-        ensures state { (state : ControllerState) (party : OneParty) → Shows self.old state → IsAllowed party (Body.Call (lent_call call.now)) →
-            HasFitTexts (lent_call call.now)
-            → OnOk result (Shows self.new (fenced self.old.config state (call_frame number party (lent_call call.now))).state) }
-        // which row was changed or made, and what stays as it was
-        ensures changes { IfOk result (λ answer. IfSome answer (λ own. ChangesAt own.row number self.old self.new)) }
-        ensures current { IsCurrent self.new.session self.new.rows }
-        ensures unanswered { result ≡ Ok None → self.new ≡ self.old }
-        ensures allowed { IfOk result (λ answer. IfSome answer (λ own. IsAllowed Party.Controller (Body.Reply own.kind own.reply))) }
-        ensures config { self.new.config ≡ self.old.config }
-        ensures err { (state : ControllerState) → Shows self.old state → OnErr result (Shows self.new state) }
-        // no frame has a call with such a text
-        ensures unfit { (HasFitTexts (lent_call call.now) → ⊥) → (result ≡ Ok None) × (self.new ≡ self.old) }
-        // what takes no memory succeeds
-        ensures others { IsTrue (not (is_party_of (kind_of (lent_call call.now)) Party.Controller)) → result ≡ Ok None }
-        ensures undone { (state : ControllerState) → Shows self.old state → IsUndoing (lent_call call.now) →
-            IsAnsweredOk self.old.config state number (lent_call call.now) → IsOk result }
-        ensures repeated { (state : ControllerState) → Shows self.old state →
-            IsPlainRepeat state.session (kept_for (lent_call call.now) state) number → IsOk result }
+        ensures { AnswersCall (HasFitTexts (lent_call call.now)) self.old self.new number (lent_call call.now) result }
     {
         let _rows = &self.rows;
         if !call.is_within_limits() {
             return Ok(None);
         }
-        step::answer(&mut self.rows, number, call)
+        self.answer_any(number, call)
+    }
+
+    // Answers a call as `answer` does, whatever its texts are.
+    fn answer_any(
+        &mut self,
+        number: Number,
+        call: &CallRef<'_>,
+    ) -> Result<Option<Answer>, CoreFault>
+        ensures { AnswersCall (Unit {0}) self.old self.new number (lent_call call.now) result }
+    {
+        match call {
+            CallRef::CreateVolume { .. }
+            | CallRef::DeleteVolume { .. }
+            | CallRef::ControllerPublishVolume { .. }
+            | CallRef::ControllerUnpublishVolume { .. } => {
+                // What is handed on by value is copied at each step, with the gaps between its parts, unless it is made anew.
+                match self.rows.answer(number, call) {
+                    Ok(Answer { kind, reply, row }) => Ok(Some(Answer { kind, reply, row })),
+                    Err(fault) => Err(fault),
+                }
+            }
+            _ => Ok(None),
+        }
     }
 
     /// This session begins, where it is later than the greatest that came, as if a call had begun it: every call of an earlier session is

@@ -1,8 +1,8 @@
 //! The names of rows, each with its id, in the order of the rows.
-ghost use Rattle.std.specs.Prelude.{◌≡◌, ◌<◌, ◌==◌, List, map, filter, find, position, option_map, IfOk, IfErr};
+ghost use Rattle.std.specs.Prelude.{◌≡◌, ◌<◌, ◌==◌, List, map, filter, find, position, option_map, IfOk};
 ghost use Rattle.indexmap.specs.IndexMap.{spare};
 ghost use Rattle.csi_types.specs.Model.Same.{same_text};
-ghost use Rattle.csi_fence.specs.Public.Rows.{AreRising, IsGapFor, IsPlaceOf, stays_in};
+ghost use Rattle.csi_fence.specs.Public.Rows.{AreRising, stays_in};
 ghost use Rattle.csi_controller.specs.Public.Core.{AreSoundRows};
 ghost use Rattle.csi_controller.specs.Public.WithoutSession.{stays_in as row_stays};
 ghost use Rattle.csi_controller.specs.Public.Names.{by_name, by_text};
@@ -61,23 +61,14 @@ pub fn stays(row: &ControllerRow, session: u64) -> bool
     row.live || row.last.session == session
 }
 
-/// Where the row of this id is, or where it would go.
-#[inline]
-pub fn place_of_id(rows: &[ControllerRow], id: VolumeId) -> Result<usize, usize>
-    requires rising { AreRising controller_plan.id (map row_shown rows.now) }
-    ensures found { IfOk result (IsPlaceOf controller_plan.id (map row_shown rows.now) id) }
-    ensures absent { IfErr result (IsGapFor controller_plan.id (map row_shown rows.now) id) }
-{
-    rows.binary_search_by_key(&id.number(), |row| row.id.number())
-}
-
 /// Where the row of this id is, if there is one.
 #[inline]
 pub fn find_id(rows: &[ControllerRow], id: VolumeId) -> Option<usize>
     requires { AreRising controller_plan.id (map row_shown rows.now) }
     ensures { result ≡ position (λ row. row.volume.id == id) (map row_shown rows.now) }
 {
-    place_of_id(rows, id).ok()
+    rows.binary_search_by_key(&id.number(), |row| row.id.number())
+        .ok()
 }
 
 // Whether the row of this id stays in this session.
@@ -85,9 +76,9 @@ fn is_id_kept(rows: &[ControllerRow], id: VolumeId, session: u64) -> bool
     requires { AreRising controller_plan.id (map row_shown rows.now) }
     ensures { result ≡ is_kept session id (map row_shown rows.now) }
 {
-    match place_of_id(rows, id) {
-        Ok(place) => stays(&rows[place], session),
-        Err(_) => false,
+    match find_id(rows, id) {
+        Some(place) => stays(&rows[place], session),
+        None => false,
     }
 }
 

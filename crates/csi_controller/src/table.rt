@@ -10,17 +10,17 @@ ghost use Rattle.csi_controller.specs.Public.Core.{IsUndoing, next_shown};
 ghost use Rattle.csi_controller.specs.Public.Making.{new_line};
 ghost use Rattle.csi_controller.specs.Public.OneRow.{row_shown};
 
-use crate::controller::changes::change;
-use crate::controller::counts::MAX_NODES;
-use crate::controller::create_lines::argument_fault;
+use crate::controller::changes::{held, take_out};
+use crate::controller::counts::{MAX_NODES, recount};
+use crate::controller::create_lines::{argument_fault, create_line};
 use crate::controller::new_row::{done, new_row};
-use crate::controller::row_table::line;
+use crate::controller::row_table::{delete_line, publish_line, unpublish_line};
 use crate::controller::without_row::line_without_row;
 use crate::names::{find_id, forget_names, place_of_name};
 use crate::row::ControllerRow;
 use csi_fence::{Absent, CoreFault, Line, Table};
 use csi_types::{
-    CallRef, CapabilitiesRef, Config, Kind, MAX_ROWS, Number, Reply, Status, VolumeId,
+    CallRef, CapabilitiesRef, Config, Kind, MAX_ROWS, NodeUse, Number, Reply, Status, VolumeId,
     wanted_capacity,
 };
 use indexmap::IndexMap;
@@ -194,8 +194,30 @@ impl Table for ControllerTable {
 
     #[inline]
     fn line<'a>(&self, row: &'a ControllerRow, call: &CallRef<'_>) -> Line<'a> {
-        self.config.fit_law();
-        line(row, self.config.nodes(), &self.counts, call)
+        match call {
+            CallRef::CreateVolume {
+                required,
+                limit,
+                capabilities,
+                ..
+            } => create_line(row, *required, *limit, *capabilities),
+            CallRef::DeleteVolume { .. } => delete_line(row),
+            CallRef::ControllerPublishVolume {
+                node,
+                capability,
+                readonly,
+                ..
+            } => {
+                let wanted = NodeUse {
+                    node,
+                    capability: *capability,
+                    readonly: *readonly,
+                };
+                publish_line(row, &self.config, &self.counts, wanted)
+            }
+            CallRef::ControllerUnpublishVolume { node, .. } => unpublish_line(row, node),
+            _ => Line::Refused(Status::Unimplemented, ""),
+        }
     }
 
     #[inline]
@@ -205,7 +227,33 @@ impl Table for ControllerTable {
         alloc: Global,
         call: &CallRef<'_>,
     ) -> Result<(), CoreFault> {
-        change(row, self.config.nodes(), &mut self.counts, alloc, call)
+        match call {
+            CallRef::DeleteVolume { .. } => {
+                row.live = false;
+                Ok(())
+            }
+            CallRef::ControllerPublishVolume {
+                node,
+                capability,
+                readonly,
+                ..
+            } => {
+                let wanted = NodeUse {
+                    node,
+                    capability: *capability,
+                    readonly: *readonly,
+                };
+                row.holdings.push(held(alloc, wanted)?)?;
+                recount(&mut self.counts, &self.config, node, true);
+                Ok(())
+            }
+            CallRef::ControllerUnpublishVolume { node, .. } => {
+                take_out(&mut row.holdings, node);
+                recount(&mut self.counts, &self.config, node, false);
+                Ok(())
+            }
+            _ => Ok(()),
+        }
     }
 
     fn absent(

@@ -17,6 +17,7 @@ pub mod ReadRecords
 pub mod NodeOpening
 pub mod JoinedSessions
 pub mod AnsweredFrames
+pub mod ToldFrames
 pub mod ReplyLengths
 pub mod OrchestratorChanges
 pub mod WholeChanges

@@ -4,6 +4,7 @@ pub mod Failing
 pub mod StoreOpening
 pub mod Opening
 pub mod Plugins
+pub mod Telling
 pub mod Services
 pub mod NodeOpening
 pub mod WholeRecords

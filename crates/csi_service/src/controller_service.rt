@@ -10,9 +10,7 @@ ghost use Rattle.csi_service.specs.Public.Services.{controller_service_parts, co
 use crate::opening::{Opens, head_part, open, renewal};
 use crate::plugin::Plugin;
 use crate::plugin_service::{PluginService, service_of};
-use csi_controller::{
-    Controller, ControllerRecord, ControllerRow, current_law, showing_law, sound_law,
-};
+use csi_controller::{Controller, ControllerRecord, ControllerRow, current_law, sound_law};
 use csi_fence::{Answer, CoreFault};
 use csi_records::{Record, RecordStop, Stored, controller_head_value, volume_value};
 use csi_stores::{Keep, KeepFault, Part};
@@ -84,7 +82,7 @@ impl Plugin for Controller {
         call: &CallRef<'_>,
     ) -> Result<Option<Answer>, CoreFault> {
         sound_law(self);
-        showing_law(self);
+        let _next = self.next_id();
         let answered = self.answer(number, call);
         sound_law(self);
         answered
@@ -96,7 +94,6 @@ impl Plugin for Controller {
 
     fn plugin_law(&self) {
         sound_law(self);
-        showing_law(self);
         current_law(self);
         let _next = self.next_id();
         let _session = self.session();

@@ -4,11 +4,10 @@ ghost use Rattle.std.specs.Option.{option_copied};
 ghost use Rattle.csi_types.specs.declared.call.Call.{Call as OneCall};
 ghost use Rattle.csi_types.specs.declared.number.Number.{Number as OneNumber};
 ghost use Rattle.csi_types.specs.Model.Frame.{Frame as FrameParts};
-ghost use Rattle.csi_types.specs.Public.Frame.{IsAllowed};
-ghost use Rattle.csi_types.specs.Public.Lent.{lent_call, HasFitTexts};
+ghost use Rattle.csi_types.specs.Public.Lent.{lent_call};
 ghost use Rattle.csi_stores.specs.Public.Content.{AreRisingParts};
 ghost use Rattle.csi_stores.specs.Public.Part.{StoredPart};
-ghost use Rattle.csi_service.specs.Private.Plugins.{machine_of, party_of, gone_ids, CarriesOut, Raises, TellSame};
+ghost use Rattle.csi_service.specs.Private.Plugins.{machine_of, party_of, gone_ids, CarriesOut, IsCallOf, Raises, TellSame};
 ghost use Rattle.csi_service.specs.Public.Answering.{AreRecord};
 ghost use Rattle.csi_service.specs.Public.Plugins.{View, row_parts, record_parts, AreFit};
 ghost use Rattle.csi_service.specs.Public.Raising.{head_in};
@@ -77,8 +76,7 @@ pub trait Plugin: Drop {
 
     /// Answers a call of it, which is within its limits, by the fence and the table. A refusal leaves what it shows, and its record.
     fn carry_out(&mut self, number: Number, call: &CallRef<'_>) -> Result<Option<Answer>, CoreFault>
-        requires allowed { IsAllowed (party_of view self.old) (Body.Call (lent_call call.now)) }
-        requires texts { HasFitTexts (lent_call call.now) }
+        requires { IsCallOf (party_of view self.old) (lent_call call.now) }
         ensures { CarriesOut view self.old self.new number (lent_call call.now) result };
 
     /// This session begins, where it is later than the greatest that came, as if a call had begun it. It takes no memory.

@@ -1,17 +1,16 @@
 //! A plugin over a store, whichever it is.
-ghost use Rattle.std.specs.Prelude.{◌≡◌, ◌≤◌, ◌+◌, [], None, length, map, IfOk, OnOk, OnErr};
+ghost use Rattle.std.specs.Prelude.{◌≡◌, ◌≤◌, ◌+◌, [], false, None, Ok, length, map, IfOk, OnOk, OnErr};
 ghost use Rattle.csi_types.specs.Model.Frame.{Frame as FrameParts};
-ghost use Rattle.csi_types.specs.Public.Frame.{IsAllowed};
-ghost use Rattle.csi_types.specs.Public.Lent.{lent_call, HasFitTexts};
-ghost use Rattle.csi_fence.specs.Model.Fenced.{fenced};
+ghost use Rattle.csi_types.specs.Public.Lent.{lent_call};
 ghost use Rattle.csi_frames.specs.Public.Lent.{lent_frame};
 ghost use Rattle.csi_stores.specs.Public.Content.{all_changed};
 ghost use Rattle.csi_stores.specs.Public.Part.{part_change};
 ghost use Rattle.csi_service.specs.Private.Calls.{IsNoCallFor};
-ghost use Rattle.csi_service.specs.Private.Plugins.{party_of, AnswersCall};
-ghost use Rattle.csi_service.specs.Public.Answering.{AppendsReply, AnswersAsBefore};
+ghost use Rattle.csi_service.specs.Private.Plugins.{party_of, AnswersCall, IsCallOf};
+ghost use Rattle.csi_service.specs.Public.Answering.{AppendsReply};
 ghost use Rattle.csi_service.specs.Public.Raising.{raised_parts, raise_changes, IsRaised};
-ghost use Rattle.csi_service.specs.Public.Plugins.{service_parts, service_changes, ServiceAnswers, Differs, StaysFit, AreFit, IsNamedFit};
+ghost use Rattle.csi_service.specs.Public.Plugins.{service_parts, service_changes, ServiceAnswers, AreFit, IsNamedFit};
+ghost use Rattle.csi_service.specs.Public.Telling.{TellsFrame};
 
 use crate::changed::{Changed, forgotten, id_law, nothing, push_row};
 use crate::plugin::Plugin;
@@ -66,8 +65,7 @@ pub(crate) fn service_of<P: Plugin>(alloc: Global, plugin: P, party: Party) -> P
 impl<P: Plugin> PluginService<P> {
     // Answers a call of the plugin, which is within its limits, and notes what that changed. A refusal leaves what the record says.
     fn answer_call(&mut self, number: Number, call: &CallRef<'_>) -> Result<Answer, NoMemory>
-        requires allowed { IsAllowed (party_of P.view self.old.plugin) (Body.Call (lent_call call.now)) }
-        requires texts { HasFitTexts (lent_call call.now) }
+        requires { IsCallOf (party_of P.view self.old.plugin) (lent_call call.now) }
         ensures { AnswersCall P.view self.old self.new number (lent_call call.now) result }
     {
         self.plugin.plugin_law();
@@ -110,9 +108,7 @@ impl<P: Plugin> PluginService<P> {
     // Notes that a frame that is no call for the plugin changed nothing. It takes no memory.
     fn pass(&mut self)
         ensures answered { (frame : FrameParts) → IsNoCallFor (party_of P.view self.old.plugin) frame → ServiceAnswers P.view self.old frame None self.new }
-        ensures plugin { self.new.plugin ≡ self.old.plugin }
-        ensures changes { service_changes P.view self.new ≡ [] }
-        ensures differs { Differs P.view self.new.changed self.old.plugin self.new.plugin }
+        ensures told { (frame : FrameParts) → TellsFrame P.view self.old self.new frame (Ok false) }
     {
         self.plugin.plugin_law();
         self.changed = nothing(self.alloc);
@@ -141,17 +137,7 @@ impl<P: Plugin> Core for PluginService<P> {
     fn answer_into(&mut self, frame: &FrameRef<'_>, out: &mut Vec<u8>) -> Result<bool, NoMemory>
         ensures answered { IfOk result (AppendsReply (ServiceAnswers P.view) self.old (lent_frame frame.now) self.new out.old.items out.new.items) }
         ensures few { OnOk result (length out.new.items ≤ length out.old.items + 544) }
-        ensures parts { OnOk result (service_parts P.view self.new ≡ all_changed (service_changes P.view self.new) (service_parts P.view self.old)) }
-        ensures nothing { (state : P.State) → P.view.Shows self.old.plugin state →
-            (fenced (P.view.machine (P.view.own self.old.plugin)) state (lent_frame frame.now)).state ≡ state → OnOk result (service_changes P.view self.new ≡ []) }
-        ensures own { P.view.own self.new.plugin ≡ P.view.own self.old.plugin }
-        // A part is told only where what it says is other than it was.
-        ensures differs { OnOk result (Differs P.view self.new.changed self.old.plugin self.new.plugin) }
-        ensures fit { OnOk result (StaysFit P.view self.new.changed self.old.plugin self.new.plugin) }
-        ensures err_answers { OnErr result (AnswersAsBefore (ServiceAnswers P.view) self.old self.new) }
-        ensures err_shows { (state : P.State) → P.view.Shows self.old.plugin state → OnErr result (P.view.Shows self.new.plugin state) }
-        ensures err { OnErr result (service_parts P.view self.new ≡ service_parts P.view self.old) }
-        ensures err_changes { OnErr result (service_changes P.view self.new ≡ service_changes P.view self.old) }
+        ensures told { TellsFrame P.view self.old self.new (lent_frame frame.now) result }
         ensures err_bytes { OnErr result (out.new.items ≡ out.old.items) }
     {
         if frame.is_for(&self.party) {
@@ -170,8 +156,6 @@ impl<P: Plugin> Core for PluginService<P> {
     /// The head where what it says changed, what takes out the rows that were forgotten, and the row of the one volume that was changed or
     /// made. No row is searched for.
     fn parts(&self) -> Result<Vec<Part>, NoMemory>
-        ensures changes { IfOk result (λ parts. map part_change parts.items ≡ service_changes P.view self.now) }
-        ensures fit { OnOk result (IsNamedFit P.view self.now.changed.row self.now.plugin) }
     {
         let mut parts = Vec::new(self.alloc);
         if self.changed.new_head {

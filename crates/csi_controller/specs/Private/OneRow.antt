@@ -5,6 +5,9 @@ use Rattle.csi_types.specs.declared.node_use.NodeUse.{NodeUse}
 use Rattle.csi_types.specs.Model.Holding.{is_compatible}
 use Rattle.csi_types.specs.Model.Same.{same_text, has_capability}
 use Rattle.csi_types.specs.Public.Lent.{lent_capability}
+use Rattle.csi_types.specs.Public.Reply.{has_id_by_rule}
+use Rattle.csi_types.specs.declared.call.Kind.{Kind}
+use Rattle.csi_types.specs.declared.status.Status.TheVariants.{Ok}
 use Rattle.csi_fence.specs.declared.line.Line.{Line}
 use Rattle.csi_fence.specs.declared.line.Line.TheVariants.{Refused, Met, Done}
 use Rattle.csi_fence.specs.Public.Line.{told_by}
@@ -23,6 +26,13 @@ abbrev pub outcome_shown : Change → Line → Outcome
 outcome_shown change (Refused status detail) = refused status detail.now
 outcome_shown change (Met id) = record { reply = (told_by (Met id)).reply; change = Stays }
 outcome_shown change Done = done change
+
+-- the table's outcome for a call of this kind, where this is the call's change, is told by this line; what it replies has an id exactly where
+-- it must, and an `Ok` has no detail
+pub record IsLine (kind : Kind) (change : Change) (outcome : Outcome) (answer : Line) : Type 0 where
+  pub line : outcome ≡ outcome_shown change answer
+  pub id : IsTrue (has_id_by_rule kind (told_by answer).reply)
+  pub plain : (told_by answer).reply.status ≡ Ok → (told_by answer).reply.detail ≡ []
 
 -- how the row's volume is held at a node, if it is
 abbrev pub held_of_row : RowShown → List ℕ → Option NodeHolding

@@ -1,20 +1,19 @@
 //! How many volumes are held at each configured node.
-ghost use Rattle.std.specs.Prelude.{◌≡◌, ◌≤◌, false, length, map, count_by, is_some, Some, IfSome};
-ghost use Rattle.csi_types.specs.Model.Config.{has_node as is_configured};
+ghost use Rattle.std.specs.Prelude.{◌≡◌, ◌≤◌, false, length, map, count_by, Some};
 ghost use Rattle.csi_types.specs.Public.Config.{has_same_node};
 ghost use Rattle.csi_controller.specs.Public.Counts.{place_of, is_held, AreCounted};
-ghost use Rattle.csi_controller.specs.Private.Counts.{is_node_full, recounted};
+ghost use Rattle.csi_controller.specs.Private.Counts.{recounted};
 ghost use Rattle.csi_controller.specs.Public.OneRow.{row_shown};
 
 use super::holdings::is_held_at;
 use crate::row::ControllerRow;
-use csi_types::NodeSlots;
+use csi_types::{Config, NodeSlots};
 
 /// The most nodes that are configured.
 pub const MAX_NODES: usize = 64;
 
-// Where the node is configured.
-fn place_of_node(nodes: &[NodeSlots], node: &str) -> Option<usize>
+/// Where the node is configured.
+pub fn place_of_node(nodes: &[NodeSlots], node: &str) -> Option<usize>
     ensures { result ≡ place_of node.now nodes.now }
 {
     nodes.iter().position(|entry| entry.id.as_str() == node)
@@ -46,23 +45,12 @@ pub fn counted(nodes: &[NodeSlots], rows: &[ControllerRow]) -> [u64; MAX_NODES]
     counts
 }
 
-/// Whether the node takes no more volumes, if it is configured.
-pub fn is_full(counts: &[u64; MAX_NODES], nodes: &[NodeSlots], node: &str) -> Option<bool>
-    requires { length nodes.now ≤ 64 }
-    ensures configured { is_some result ≡ is_configured node.now nodes.now }
-    ensures full { IfSome result (λ is. is ≡ is_node_full nodes.now counts.now node.now) }
-{
-    match place_of_node(nodes, node) {
-        Some(place) => Some(nodes[place].slots <= counts[place]),
-        None => None,
-    }
-}
-
 /// Counts a volume that came to be held at a node, or ceased to be.
-pub fn recount(counts: &mut [u64; MAX_NODES], nodes: &[NodeSlots], node: &str, is_held: bool)
-    requires { length nodes.now ≤ 64 }
-    ensures { counts.new ≡ recounted nodes.now (Some (node.now, is_held)) counts.old }
+pub fn recount(counts: &mut [u64; MAX_NODES], config: &Config, node: &str, is_held: bool)
+    ensures { counts.new ≡ recounted config.now.nodes (Some (node.now, is_held)) counts.old }
 {
+    config.fit_law();
+    let nodes = config.nodes();
     if let Some(place) = place_of_node(nodes, node) {
         let count = counts[place];
         counts[place] = if is_held {

@@ -8,7 +8,7 @@ ghost use Rattle.csi_controller.specs.Public.Plan.{controller_plan};
 ghost use Rattle.csi_controller.specs.Private.OneRow.{row_if_live};
 ghost use Rattle.csi_controller.specs.Public.Views.{IsCopyOf};
 
-use crate::names::{place_of_id, place_of_name};
+use crate::names::{find_id, place_of_name};
 use crate::row::ControllerRow;
 use csi_fence::CoreFault;
 use csi_types::VolumeId;
@@ -42,11 +42,11 @@ pub fn copied_row(rows: &[ControllerRow], id: VolumeId) -> Result<Option<Control
     ensures copy { IfOk result (IsCopyOf (find (λ row. row.id == id) rows.now)) }
     ensures succeeds { find (λ row. row.id == id) rows.now ≡ None → IsOk result }
 {
-    match place_of_id(rows, id) {
-        Ok(place) => {
+    match find_id(rows, id) {
+        Some(place) => {
             let copy = rows[place].clone()?;
             Ok(Some(copy))
         }
-        Err(_) => Ok(None),
+        None => Ok(None),
     }
 }

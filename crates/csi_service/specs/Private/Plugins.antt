@@ -8,13 +8,13 @@ use Rattle.csi_types.specs.declared.number.Number.{Number}
 use Rattle.csi_types.specs.Model.Frame.{Frame}
 use Rattle.csi_types.specs.Model.Replies.{call_frame, reply_frame}
 use Rattle.csi_types.specs.Public.Frame.{IsAllowed}
+use Rattle.csi_types.specs.Public.Lent.{HasFitTexts}
 use Rattle.csi_fence.specs.declared.answer.Answer.{Answer}
 use Rattle.csi_fence.specs.declared.fault.CoreFault.{CoreFault}
 use Rattle.csi_fence.specs.Model.Fence.{begins}
 use Rattle.csi_fence.specs.Model.Fenced.{Machine, fenced}
-use Rattle.csi_stores.specs.Public.Content.{all_changed}
-use Rattle.csi_service.specs.Public.Answering.{AnswersAsBefore}
-use Rattle.csi_service.specs.Public.Plugins.{ServedPlugin, View, head_of, row_parts, Differs, StaysFit, service_parts, service_changes, ServiceAnswers, row_id, row_by_id, last_in}
+use Rattle.csi_service.specs.Public.Plugins.{ServedPlugin, View, head_of, row_parts, ServiceAnswers, row_id, row_by_id, last_in}
+use Rattle.csi_service.specs.Public.Telling.{TellsFrame}
 
 -- the plugin behind the fence, and its name in frames
 abbrev pub machine_of : {P Own R State : Type 0} → View P Own R State → P → Machine State
@@ -52,6 +52,11 @@ pub record RowsChange {P Own R State : Type 0} (view : View P Own R State) (plac
 
 -- ---- a call
 
+-- the call is for this plugin, and its texts are within their limits
+pub record IsCallOf (party : Party) (call : Call) : Type 0 where
+  pub allowed : IsAllowed party (bodies.Call call)
+  pub texts : HasFitTexts call
+
 -- a plugin carried out a call: an `Ok` is the definitions' answer; a refusal leaves what it shows, and its record
 pub record CarriesOut {P Own R State : Type 0} (view : View P Own R State) (old new : P) (number : Number) (call : Call) (result : Result (Option Answer) CoreFault) : Type 0 where
   pub own : view.own new ≡ view.own old
@@ -80,13 +85,4 @@ pub record TellSame {P Own R State : Type 0} (view : View P Own R State) (one ot
 pub record AnswersCall {P Own R State : Type 0} (view : View P Own R State) (old new : ServedPlugin P) (number : Number) (call : Call) (result : Result Answer NoMemory) : Type 0 where
   pub answered : IfOk result (λ answer. ServiceAnswers view old (call_frame number (party_of view old.plugin) call) (Some (answer_frame (party_of view old.plugin) number answer)) new)
   pub allowed : IfOk result (λ answer. IsAllowed (party_of view old.plugin) (bodies.Reply answer.kind answer.reply))
-  pub parts : OnOk result (service_parts view new ≡ all_changed (service_changes view new) (service_parts view old))
-  pub nothing : (state : State) → view.Shows old.plugin state → (fenced (machine_of view old.plugin) state (call_frame number (party_of view old.plugin) call)).state ≡ state
-      → OnOk result (service_changes view new ≡ [])
-  pub own : view.own new.plugin ≡ view.own old.plugin
-  pub differs : OnOk result (Differs view new.changed old.plugin new.plugin)
-  pub fit : OnOk result (StaysFit view new.changed old.plugin new.plugin)
-  pub err_answers : OnErr result (AnswersAsBefore (ServiceAnswers view) old new)
-  pub err_shows : (state : State) → view.Shows old.plugin state → OnErr result (view.Shows new.plugin state)
-  pub err : OnErr result (service_parts view new ≡ service_parts view old)
-  pub err_changes : OnErr result (service_changes view new ≡ service_changes view old)
+  pub told : TellsFrame view old new (call_frame number (party_of view old.plugin) call) result

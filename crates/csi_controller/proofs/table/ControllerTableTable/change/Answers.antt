@@ -1,37 +1,84 @@
 -- What a row is told to change can be changed.
-use Rattle.std.proofs.Common.{◌∙◌, sym, ap, subst, List, ℕ}
-use Rattle.std.proofs.lemmas.Result.{on_ok_weaker}
-use Rattle.std.specs.Prelude.{map, slice_set}
+use Rattle.std.proofs.Common.{◌≡◌, rules, false}
 use Rattle.csi_types.specs.Public.Lent.{lent_call}
-use Rattle.csi_controller.specs.Public.Names.{by_text}
-use Rattle.csi_controller.specs.Public.OneRow.{call_change, row_shown}
+use Rattle.csi_controller.specs.Public.OneRow.{RowShown, call_change, row_changed, row_shown}
 use Rattle.csi_controller.specs.Private.OneRow.{moved}
-use Rattle.csi_types.specs.declared.config.NodeSlots.{NodeSlots}
 use Rattle.csi_controller.specs.Private.Counts.{recounted}
-use Rattle.csi_controller.specs.Public.Plan.{Fits, IsSoundBy, is_full_by}
-use Rattle.csi_controller.specs.Public.Core.{next_shown}
-use Rattle.csi_controller.proofs.ControllerPlan.{fits-changed, on-both}
-use Rattle.csi_controller.proofs.RowsTold.{can-told}
-use Rattle.csi_controller.proofs.SoundRows.{sound-changed}
+use Rattle.csi_controller.proofs.ControllerPlan.{change-fits, change-sound}
 use Rattle.csi_controller.proofs.table.ControllerTableTable.change.Goals as goal
 
-pub returns-clause-sound : goal.returns-clause-sound
-returns-clause-sound c =
+pub returns-in-DeleteVolume-clause-sound : goal.returns-in-DeleteVolume-clause-sound
+returns-in-DeleteVolume-clause-sound c =
     let table = c.args.self.now in
     let row = row_shown c.args.row.now in
     let call = lent_call c.args.call.now in
-    let can = can-told table.config (is_full_by table.config.nodes c.requires.done.0) row call c.requires.own c.requires.done.2 in
-    on_ok_weaker c.change.result (λ is. subst (IsSoundBy (next_shown table.next_id)) (sym is) (sound-changed (next_shown table.next_id) row (call_change call) c.requires.sound can)) c.change.ensures.row
+    let new : RowShown = record row { volume = record row.volume { is_live = false } } in
+    let is : new ≡ row_changed row (call_change call) = search rules in
+    change-sound table row new call c.requires.own c.requires.done.0 c.requires.done.2 is c.requires.sound
 
-pub returns-clause-agrees : goal.returns-clause-agrees
-returns-clause-agrees c =
+pub returns-in-DeleteVolume-clause-agrees : goal.returns-in-DeleteVolume-clause-agrees
+returns-in-DeleteVolume-clause-agrees c =
     let table = c.args.self.now in
     let row = row_shown c.args.row.now in
     let call = lent_call c.args.call.now in
-    let names = map by_text table.ids.entries in
-    let can = can-told table.config (is_full_by table.config.nodes c.requires.done.0) row call c.requires.own c.requires.done.2 in
-    on-both c.change.result
-    (λ is counts rows place fits at.
-    subst (λ (after : List ℕ). Fits table.config.nodes names after table.next_id (slice_set rows place (row_shown c.change.new.row))) (sym (counts ∙ ap (λ (nodes : List NodeSlots). recounted nodes (moved (call_change call)) table.counts) c.nodes.ensures))
-    (fits-changed table.config.nodes names table.counts table.next_id rows place row (row_shown c.change.new.row) (call_change call) fits at can is))
-    c.change.ensures.row c.change.ensures.counts
+    let new : RowShown = record row { volume = record row.volume { is_live = false } } in
+    let is : new ≡ row_changed row (call_change call) = search rules in
+    let again : table.counts ≡ recounted table.config.nodes (moved (call_change call)) table.counts = search rules in
+    change-fits table row new call c.requires.own c.requires.done.0 c.requires.done.2 is table.counts again
+
+pub returns-in_ok-push-in-ControllerPublishVolume-clause-sound : goal.returns-in_ok-push-in-ControllerPublishVolume-clause-sound
+returns-in_ok-push-in-ControllerPublishVolume-clause-sound c =
+    let table = c.args.self.now in
+    let row = row_shown c.args.row.now in
+    let call = lent_call c.args.call.now in
+    let new : RowShown = record row { items = c.push.new.self.items } in
+    let is : new ≡ row_changed row (call_change call) = search rules in
+    change-sound table row new call c.requires.own c.requires.done.0 c.requires.done.2 is c.requires.sound
+
+pub returns-in_ok-push-in-ControllerPublishVolume-clause-agrees : goal.returns-in_ok-push-in-ControllerPublishVolume-clause-agrees
+returns-in_ok-push-in-ControllerPublishVolume-clause-agrees c =
+    let table = c.args.self.now in
+    let row = row_shown c.args.row.now in
+    let call = lent_call c.args.call.now in
+    let new : RowShown = record row { items = c.push.new.self.items } in
+    let is : new ≡ row_changed row (call_change call) = search rules in
+    let again : c.recount.new.counts ≡ recounted table.config.nodes (moved (call_change call)) table.counts = search rules in
+    change-fits table row new call c.requires.own c.requires.done.0 c.requires.done.2 is c.recount.new.counts again
+
+pub returns-in-ControllerUnpublishVolume-clause-sound : goal.returns-in-ControllerUnpublishVolume-clause-sound
+returns-in-ControllerUnpublishVolume-clause-sound c =
+    let table = c.args.self.now in
+    let row = row_shown c.args.row.now in
+    let call = lent_call c.args.call.now in
+    let new : RowShown = record row { items = c.take_out.new.holdings.items } in
+    let is : new ≡ row_changed row (call_change call) = search rules in
+    change-sound table row new call c.requires.own c.requires.done.0 c.requires.done.2 is c.requires.sound
+
+pub returns-in-ControllerUnpublishVolume-clause-agrees : goal.returns-in-ControllerUnpublishVolume-clause-agrees
+returns-in-ControllerUnpublishVolume-clause-agrees c =
+    let table = c.args.self.now in
+    let row = row_shown c.args.row.now in
+    let call = lent_call c.args.call.now in
+    let new : RowShown = record row { items = c.take_out.new.holdings.items } in
+    let is : new ≡ row_changed row (call_change call) = search rules in
+    let again : c.recount-in-ControllerUnpublishVolume.new.counts ≡ recounted table.config.nodes (moved (call_change call)) table.counts = search rules in
+    change-fits table row new call c.requires.own c.requires.done.0 c.requires.done.2 is c.recount-in-ControllerUnpublishVolume.new.counts again
+
+pub returns-in_default-clause-sound : goal.returns-in_default-clause-sound
+returns-in_default-clause-sound c =
+    let table = c.args.self.now in
+    let row = row_shown c.args.row.now in
+    let call = lent_call c.args.call.now in
+    let new : RowShown = row in
+    let is : new ≡ row_changed row (call_change call) = search rules in
+    change-sound table row new call c.requires.own c.requires.done.0 c.requires.done.2 is c.requires.sound
+
+pub returns-in_default-clause-agrees : goal.returns-in_default-clause-agrees
+returns-in_default-clause-agrees c =
+    let table = c.args.self.now in
+    let row = row_shown c.args.row.now in
+    let call = lent_call c.args.call.now in
+    let new : RowShown = row in
+    let is : new ≡ row_changed row (call_change call) = search rules in
+    let again : table.counts ≡ recounted table.config.nodes (moved (call_change call)) table.counts = search rules in
+    change-fits table row new call c.requires.own c.requires.done.0 c.requires.done.2 is table.counts again

@@ -1,6 +1,8 @@
 -- A controller carries out a call as any plugin does; after a refusal its rows are told by the same state.
 use Rattle.csi_types.specs.declared.call.Party.TheVariants.{Controller}
 use Rattle.csi_controller.specs.Public.RowsLaw.{ChangesAt}
+use Rattle.csi_controller.proofs.ShowingLaw.{shows-a_state}
+use Rattle.std.proofs.Common.{arith}
 use Rattle.std.proofs.lemmas.Result.{on_err_weaker}
 use Rattle.csi_service.specs.Public.Services.{controller_view}
 use Rattle.csi_service.specs.Private.Plugins.{RowsChange}
@@ -15,7 +17,7 @@ returns c =
     let number = c.args.number in
     let result = c.answer-answered.result in
     let told = c.answer-answered.ensures in
-    let s = c.showing_law.ensures in
+    let s = shows-a_state old c.sound_law.ensures (omega (arith, c.next_id-next.ensures.value)) in
     record {
       own = told.config;
       gets = λ state shown. told.reply state Controller shown c.requires.allowed c.requires.texts;

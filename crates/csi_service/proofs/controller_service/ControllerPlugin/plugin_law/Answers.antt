@@ -3,6 +3,7 @@
 use Rattle.std.proofs.Common.{ap, map, refl, arith}
 use Rattle.std.proofs.lemmas.Option.{same_Some}
 use Rattle.std.specs.Prelude.{ℕ}
+use Rattle.csi_controller.proofs.ShowingLaw.{shows-a_state}
 use Rattle.csi_records.specs.Public.Spelling.{present, volume_row}
 use Rattle.csi_records.specs.Public.Records.{Head, controller_layout}
 use Rattle.csi_records.proofs.Layouts.{parts-same}
@@ -12,6 +13,9 @@ use Rattle.csi_service.proofs.controller_service.ControllerPlugin.plugin_law.Goa
 
 pub returns-clause-rising : goal.returns-clause-rising
 returns-clause-rising c = rising-in present c.args.self.now.rows c.sound_law.ensures.rising
+
+pub returns-clause-shown : goal.returns-clause-shown
+returns-clause-shown c = shows-a_state c.args.self.now c.sound_law.ensures (omega (arith, c.next_id-next.ensures.value))
 
 pub returns-clause-told : goal.returns-clause-told
 returns-clause-told c = λ other state shown shown_too. controller-tells c.args.self.now other state shown shown_too

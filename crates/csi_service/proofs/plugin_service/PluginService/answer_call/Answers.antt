@@ -43,6 +43,7 @@ returns-in_default g c =
     subst (λ (seen : ServedPlugin _). AnswersCall view seen (record { plugin = new; changed = c.self.inside.changed }) c.args.number (lent_call c.args.call.now) (Err (record {}))) c.self.view_is (record {
       answered = tt;
       allowed = tt;
+      told = record {
       parts = tt;
       nothing = λ state shown same. tt;
       own = c.in_default.ensures.own;
@@ -52,6 +53,7 @@ returns-in_default g c =
       err_shows = c.in_default.ensures.err_shows;
       err = λ i. err.0 i ∷ err.1 i;
       err_changes = λ i. head_change changed.new_head (err.0 i) ++ take_all changed.forgotten.items ++ put_all (option_to_list (at_place changed.row (err.1 i)));
+      };
     })
 
 pub returns : goal.returns
@@ -82,6 +84,7 @@ returns g c =
         leads = c.in-Ok.ensures.leads;
       };
       allowed = told-answer (λ a. IsAllowed (party_of view old) (bodies.Reply a.kind a.reply)) c.in-Ok.answer answer c.unwrap-answer.ensures c.in-Ok.ensures.allowed;
+      told = record {
       parts = parts-changed view old new changed number rising rising_too changes ids
           (λ e. let numbers = stays same (view.numbers new) (view.numbers old) tells e in λ i. record { key = 0; value = view.head (own i) (numbers i) }) c.in_ok-forgotten.ensures.limits c.id_law.ensures;
       nothing = λ state shown leaves. nothing-told view old new changed (c.plugin_law.ensures.told new state shown (subst (view.Shows new) leaves (c.in-Ok.ensures.leads state shown))) differ;
@@ -92,4 +95,5 @@ returns g c =
       err_shows = λ state shown. tt;
       err = tt;
       err_changes = tt;
+      };
     })

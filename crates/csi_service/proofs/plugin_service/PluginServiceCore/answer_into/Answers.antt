@@ -27,3 +27,6 @@ returns-clause-answered g c =
         told = refl;
       }
     ]
+
+pub returns-clause-told : goal.returns-clause-told
+returns-clause-told g c = c.pass.ensures.told (lent_frame c.args.frame.now)
