@@ -8,7 +8,7 @@ use Rattle.csi_types.specs.Model.Members.{IsAmong}
 use Rattle.csi_stores.specs.Public.Content.{all_changed}
 use Rattle.csi_stores.specs.Public.Part.{put_all, take_all}
 use Rattle.csi_service.specs.declared.changed.Changed.{Changed}
-use Rattle.csi_service.specs.Public.Plugins.{ServedPlugin, View, Differs, at_place, head_change, head_of, last_in, record_changes, record_parts, row_id, row_parts}
+use Rattle.csi_service.specs.Public.Plugins.{View, at_place, head_change, head_of, last_in, record_changes, record_parts, row_id, row_parts}
 use Rattle.csi_service.specs.Public.Telling.{TellsFrame}
 
 module _ {P Own R State : Type 0} (view : View P Own R State) (plugin : P) (was changed : Changed) (head : changed.new_head ≡ false) (forgotten : changed.forgotten.items ≡ []) (row : changed.row ≡ None) where

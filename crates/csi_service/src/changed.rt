@@ -1,13 +1,11 @@
 //! What a frame changed of a plugin's record, whichever plugin it is, and the parts that say so.
-ghost use Rattle.std.specs.Prelude.{◌≡◌, ◌++◌, [], false, None, map, option_to_list, IfOk, IfSome, OnOk};
+ghost use Rattle.std.specs.Prelude.{◌≡◌, [], false, None, IfOk, IfSome};
 ghost use Rattle.std.specs.List.{AllByRecursion};
 ghost use Rattle.csi_types.specs.Public.VolumeId.{IsVolumeId};
-ghost use Rattle.csi_stores.specs.Public.Part.{part_change, put_all};
 ghost use Rattle.csi_service.specs.Private.Plugins.{forgotten_by};
-ghost use Rattle.csi_service.specs.Public.Plugins.{at_place, row_id, row_parts, IsNamedFit};
+ghost use Rattle.csi_service.specs.Public.Plugins.{row_id};
 
 use crate::plugin::Plugin;
-use csi_stores::{Part, push_value};
 use csi_types::{NoMemory, Number, VolumeId};
 use std::alloc::Global;
 
@@ -32,29 +30,6 @@ pub(crate) fn nothing(alloc: Global) -> Changed
         new_head: false,
         forgotten: Vec::new(alloc),
         row: None,
-    }
-}
-
-/// Puts the part of the row at a place at the end, if one is named and there. It is no search.
-pub(crate) fn push_row<P: Plugin>(
-    alloc: Global,
-    parts: &mut Vec<Part>,
-    plugin: &P,
-    place: Option<usize>,
-) -> Result<(), NoMemory>
-    ensures parts { OnOk result (map part_change parts.new.items ≡ map part_change parts.old.items ++ put_all (option_to_list (at_place
-        place (row_parts P.view plugin.now)))) }
-    ensures fit { OnOk result (IsNamedFit P.view place plugin.now) }
-{
-    let Some(place) = place else {
-        return Ok(());
-    };
-    match plugin.row_at(place) {
-        Some(row) => {
-            let value = P::value_of(alloc, row)?;
-            push_value(parts, P::id_of(row).number(), value)
-        }
-        None => Ok(()),
     }
 }
 

@@ -17,7 +17,6 @@ mod plugin_core;
 mod plugin_service;
 mod raising;
 mod renewed;
-mod replies;
 mod serving;
 mod whole_records;
 mod worked;

@@ -12,18 +12,20 @@ ghost use Rattle.csi_service.specs.Public.Raising.{raised_parts, raise_changes, 
 ghost use Rattle.csi_service.specs.Public.Plugins.{service_parts, service_changes, ServiceAnswers, AreFit, IsNamedFit};
 ghost use Rattle.csi_service.specs.Public.Telling.{TellsFrame};
 
-use crate::changed::{Changed, forgotten, id_law, nothing, push_row};
+use crate::changed::{Changed, forgotten, id_law, nothing};
 use crate::plugin::Plugin;
 use crate::plugin_core::Core;
 use crate::raising::raising_parts;
-use crate::replies::{MOST_BYTES, append};
 use csi_fence::Answer;
-use csi_frames::FrameRef;
+use csi_frames::{FrameRef, encode_reply};
 use csi_records::push_removals;
 use csi_stores::{Part, push_value};
 use csi_types::{Body, CallRef, NoMemory, Number, Party};
 use std::alloc::Global;
 use std::marker::Model;
+
+/// The most bytes of a reply: 4 of a length, 18 of a version, a kind and a number, 257 of a party, and 265 of a status, an id and a detail.
+const MOST_BYTES: usize = 544;
 
 /// A plugin with its record, whose parts a store keeps: a core that answers as the plugin does. This profile's own.
 #[derive(Drop)]
@@ -145,7 +147,15 @@ impl<P: Plugin> Core for PluginService<P> {
             if let Some(call) = frame.call() {
                 let number = frame.number();
                 let answer = self.answer_call(number, call)?;
-                append(number, &self.party, answer, out);
+                // The proof reads the limits of both texts.
+                match &self.party {
+                    Party::Controller => {}
+                    Party::Node(id) => {
+                        let _id = id.as_str();
+                    }
+                }
+                let _detail = answer.reply.detail.as_str();
+                encode_reply(number, &self.party, answer.kind, &answer.reply, out).unwrap();
                 return Ok(true);
             }
         }
@@ -155,8 +165,7 @@ impl<P: Plugin> Core for PluginService<P> {
 
     /// The head where what it says changed, what takes out the rows that were forgotten, and the row of the one volume that was changed or
     /// made. No row is searched for.
-    fn parts(&self) -> Result<Vec<Part>, NoMemory>
-    {
+    fn parts(&self) -> Result<Vec<Part>, NoMemory> {
         let mut parts = Vec::new(self.alloc);
         if self.changed.new_head {
             let (_, session) = self.plugin.numbers();
@@ -164,7 +173,14 @@ impl<P: Plugin> Core for PluginService<P> {
             push_value(&mut parts, 0, value)?;
         }
         push_removals(&mut parts, &self.changed.forgotten)?;
-        push_row(self.alloc, &mut parts, &self.plugin, self.changed.row)?;
+        let Some(place) = self.changed.row else {
+            return Ok(parts);
+        };
+        let Some(row) = self.plugin.row_at(place) else {
+            return Ok(parts);
+        };
+        let value = P::value_of(self.alloc, row)?;
+        push_value(&mut parts, P::id_of(row).number(), value)?;
         Ok(parts)
     }
 

@@ -44,15 +44,15 @@ returns-in_default g c =
       answered = tt;
       allowed = tt;
       told = record {
-      parts = tt;
-      nothing = λ state shown same. tt;
-      own = c.in_default.ensures.own;
-      differs = tt;
-      fit = tt;
-      err_answers = λ frame reply next then. as-before view old new c.in_default.ensures.own same.numbers c.in_default.ensures.err_shows frame reply next.plugin then;
-      err_shows = c.in_default.ensures.err_shows;
-      err = λ i. err.0 i ∷ err.1 i;
-      err_changes = λ i. head_change changed.new_head (err.0 i) ++ take_all changed.forgotten.items ++ put_all (option_to_list (at_place changed.row (err.1 i)));
+        parts = tt;
+        nothing = λ state shown same. tt;
+        own = c.in_default.ensures.own;
+        differs = tt;
+        fit = tt;
+        err_answers = λ frame reply next then. as-before view old new c.in_default.ensures.own same.numbers c.in_default.ensures.err_shows frame reply next.plugin then;
+        err_shows = c.in_default.ensures.err_shows;
+        err = λ i. err.0 i ∷ err.1 i;
+        err_changes = λ i. head_change changed.new_head (err.0 i) ++ take_all changed.forgotten.items ++ put_all (option_to_list (at_place changed.row (err.1 i)));
       };
     })
 
@@ -85,15 +85,15 @@ returns g c =
       };
       allowed = told-answer (λ a. IsAllowed (party_of view old) (bodies.Reply a.kind a.reply)) c.in-Ok.answer answer c.unwrap-answer.ensures c.in-Ok.ensures.allowed;
       told = record {
-      parts = parts-changed view old new changed number rising rising_too changes ids
-          (λ e. let numbers = stays same (view.numbers new) (view.numbers old) tells e in λ i. record { key = 0; value = view.head (own i) (numbers i) }) c.in_ok-forgotten.ensures.limits c.id_law.ensures;
-      nothing = λ state shown leaves. nothing-told view old new changed (c.plugin_law.ensures.told new state shown (subst (view.Shows new) leaves (c.in-Ok.ensures.leads state shown))) differ;
-      own = own;
-      differs = differ;
-      fit = all-fit view old new changed number rising rising_too changes ids;
-      err_answers = tt;
-      err_shows = λ state shown. tt;
-      err = tt;
-      err_changes = tt;
+        parts = parts-changed view old new changed number rising rising_too changes ids
+            (λ e. let numbers = stays same (view.numbers new) (view.numbers old) tells e in λ i. record { key = 0; value = view.head (own i) (numbers i) }) c.in_ok-forgotten.ensures.limits c.id_law.ensures;
+        nothing = λ state shown leaves. nothing-told view old new changed (c.plugin_law.ensures.told new state shown (subst (view.Shows new) leaves (c.in-Ok.ensures.leads state shown))) differ;
+        own = own;
+        differs = differ;
+        fit = all-fit view old new changed number rising rising_too changes ids;
+        err_answers = tt;
+        err_shows = λ state shown. tt;
+        err = tt;
+        err_changes = tt;
       };
     })
