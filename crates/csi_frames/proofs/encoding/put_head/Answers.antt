@@ -27,7 +27,7 @@ returns-in-Node c =
     let whole : vec_len c.args.out.now + (24 + length id) ≤ vec_capacity c.args.out.now = omega (arith, rw c.in-Node.is at room) in
     let byte = put-in-room c.put.new.out c.append_byte-in-Node.new.out (1 ∷ []) (Unit {0}) c.append_byte-in-Node.result (omega (arith, whole, front.len, front.capacity)) c.append_byte-in-Node.ensures in
     let named = put-in-room c.append_byte-in-Node.new.out c.append_text.new.out (text id) (IsText 1 255 id) c.append_text.result
-        (omega (arith, whole, front.len, front.capacity, byte.len, byte.capacity)) c.append_text.ensures in
+    (omega (arith, whole, front.len, front.capacity, byte.len, byte.capacity)) c.append_text.ensures in
     rw c.in-Node.is
     (Puts-then c.args.out.now c.put.new.out c.append_text.new.out (head c.args.size c.args.version c.args.kind c.args.number) (1 ∷ text id) (Unit {0}) (Unit {0}) _ (search rules, search rules) front
     (Puts-then c.put.new.out c.append_byte-in-Node.new.out c.append_text.new.out (1 ∷ []) (text id) (Unit {0}) (IsText 1 255 id) (Unit {0}) tt byte named))

@@ -12,8 +12,8 @@ read-requires g c = record {
   begun = record { buffer = c.new-lines.ensures.buffer; count = c.new-lines.ensures.count; flushed = ap (λ (h : ResponderHandler _). h.waiting.items) c.new-lines.ensures.handler ∙ c.new.ensures.items };
   room = omega arith;
   asks = λ gone read now consumed rests. c.requires.asks gone read now.store now.out consumed
-    (all_answered (AnswersInRecord g.C.Responder.is_fit g.C.Responder.spells g.C.Responder.parts_of g.C.Responder.answers) g.C.Responder.parts_of g.K.Keep.store g.W.Write.contents _ now read
-    (record { out = c.new.ensures.out; parts = c.new.ensures.parts; items = c.new.ensures.items; committed = c.new.ensures.committed; answers = c.new.ensures.answers }) (rw c.new-lines.ensures.handler at rests));
+      (all_answered (AnswersInRecord g.C.Responder.is_fit g.C.Responder.spells g.C.Responder.parts_of g.C.Responder.answers) g.C.Responder.parts_of g.K.Keep.store g.W.Write.contents _ now read
+      (record { out = c.new.ensures.out; parts = c.new.ensures.parts; items = c.new.ensures.items; committed = c.new.ensures.committed; answers = c.new.ensures.answers }) (rw c.new-lines.ensures.handler at rests));
 }
 
 pub returns-in-Ok-clause-serves : goal.returns-in-Ok-clause-serves

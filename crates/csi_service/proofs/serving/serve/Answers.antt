@@ -12,8 +12,8 @@ read-requires g c = record {
   begun = record { splitter = c.new-frames.ensures.splitter; count = c.new-frames.ensures.count; flushed = ap (λ (h : CoreHandler _). h.waiting.items) c.new-frames.ensures.handler ∙ c.new.ensures.items };
   room = omega arith;
   asks = λ gone read now consumed rests. c.requires.asks gone read now.store now.out consumed
-    (all_answered (AnswersInRecord g.C.Core.is_fit g.C.Core.spells g.C.Core.parts_of g.C.Core.answers) g.C.Core.parts_of g.K.Keep.store g.W.Write.contents _ now read
-    (record { out = c.new.ensures.out; parts = c.new.ensures.parts; items = c.new.ensures.items; committed = c.new.ensures.committed; answers = c.new.ensures.answers }) (rw c.new-frames.ensures.handler at rests));
+      (all_answered (AnswersInRecord g.C.Core.is_fit g.C.Core.spells g.C.Core.parts_of g.C.Core.answers) g.C.Core.parts_of g.K.Keep.store g.W.Write.contents _ now read
+      (record { out = c.new.ensures.out; parts = c.new.ensures.parts; items = c.new.ensures.items; committed = c.new.ensures.committed; answers = c.new.ensures.answers }) (rw c.new-frames.ensures.handler at rests));
 }
 
 pub returns-in-Ok-clause-serves : goal.returns-in-Ok-clause-serves
