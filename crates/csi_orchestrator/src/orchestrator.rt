@@ -61,13 +61,6 @@ impl Orchestrator {
     ghost use Rattle.csi_orchestrator.specs.Public.Laws.{opened_parts};
     ghost use Rattle.csi_orchestrator.specs.Public.Shown.{row_shown, closed};
 
-    // What its type keeps of what it shows. It does nothing.
-    pub(crate) fn assert_kept(&self)
-        ensures { AreSoundParts self.now }
-    {
-        let _core = &self.core;
-    }
-
     /// An orchestrator of these nodes that did nothing, in session 1. It takes no memory.
     pub fn new(alloc: Global, nodes: Vec<NodeId>) -> Orchestrator
         ensures nodes { result.nodes ≡ nodes.items }
@@ -134,10 +127,11 @@ impl Orchestrator {
         OrchestratorRecord::of_core(core)
     }
 
-    /// The session in which its next call is numbered.
+    /// The session in which its next call is numbered. By it callers have what the type keeps of what it shows.
     pub fn session(&self) -> u64
         ensures value { result ≡ self.now.last.session }
         ensures agrees { (history : History) → Shows self.now history → result ≡ (last_number history).session }
+        ensures kept { AreSoundParts self.now }
     {
         self.core.last.session
     }
@@ -155,7 +149,7 @@ impl Orchestrator {
         ensures value { map row_shown result.now ≡ self.now.rows }
         ensures few { AllByRecursion IsRowFew result.now }
     {
-        self.core.catalog.rows()
+        self.core.catalog.rows.values().as_slice()
     }
 
     /// Where the row of this name stands among the rows. It takes no memory.

@@ -1,5 +1,5 @@
 -- The rows of a catalog, and how its maps belong to them.
-use Rattle.std.specs.Prelude.{◌≡◌, ◌⊎◌, ℕ, ◌+◌, ◌<◌, ◌≤◌, List, length, map, set, nat_eq, Option, Some, None, option_map}
+use Rattle.std.specs.Prelude.{◌≡◌, ◌⊎◌, ℕ, ◌+◌, ◌<◌, ◌≤◌, List, length, map, set, nat_eq, position, Bool, Option, Some, None, option_map, IfSome}
 use Rattle.indexmap.specs.IndexMap.{spare, index_map_len, Updates}
 use Rattle.csi_types.specs.Public.Places.{IsAt}
 use Rattle.csi_orchestrator.specs.declared.sending.Outgoing.{Outgoing}
@@ -20,6 +20,11 @@ pub record IsReady (catalog : Catalog) (place : ℕ) (next : Option ℕ) : Type 
   pub room : HasRoomForCalls catalog
   pub free : 0 < spare catalog.calls
   pub few : HasFewNotes catalog
+
+-- this is where the first row of which this is so stands, if there is one
+pub record IsPlaceIn (catalog : Catalog) (is_it : Row → Bool) (found : Option ℕ) : Type 0 where
+  pub index : found ≡ position is_it (rows_of catalog)
+  pub within : IfSome found (λ index. index < index_map_len catalog.rows)
 
 -- what is noted was noted before
 abbrev pub AreNotedBefore : Catalog → Catalog → Type 0
