@@ -18,6 +18,7 @@ use crate::sharing::{
 };
 use crate::state::{node_entry_at, published_at};
 use crate::step::Step;
+use crate::thing::Known;
 use csi_types::{MAX_ROWS, NodeId, Number, Target, VolumeId, allows_one_target, has_capability};
 
 /// The most other targets of a node at which a volume may be published when it is to be published there.
@@ -108,7 +109,7 @@ fn decide_at(
 fn decide_use(nodes: &[NodeId], last: Number, row: &Row, usage: &Usage) -> Decision
     ensures { result ≡ refused_or (use_refusal nodes.now usage.now (row_shown row.now)) (decided_then last (Step.Use usage.now) (row_shown row.now)) }
 {
-    if !row.exists.is_yes() {
+    if !matches!(row.exists, Known::Yes) {
         return Decision::Refuse(OrchFault::NotCreated);
     }
     if row.goal.is_some() {

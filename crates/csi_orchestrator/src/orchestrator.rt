@@ -47,15 +47,15 @@ impl Model for Orchestrator {
 impl Orchestrator {
     ghost use Rattle.csi_orchestrator.specs.Model.History.{History, new_history, history_after};
     ghost use Rattle.csi_orchestrator.specs.Model.WellFormed.{IsWellFormed};
-    ghost use Rattle.csi_orchestrator.specs.Model.Moves.{ToCreate, ToUse, ToStop, ToDelete, TimesOut, Comes, Restarts, Loses, Sends, Hears, Restarted, GivenUp, moves};
+    ghost use Rattle.csi_orchestrator.specs.Model.Moves.{ToCreate, ToUse, ToStop, ToDelete, TimesOut, Comes, Restarts, Loses, Hears, Restarted, GivenUp, moves};
     ghost use Rattle.csi_orchestrator.specs.Model.Readings.{known, last_number};
     ghost use Rattle.csi_orchestrator.specs.Model.Shown.{Shows, orchestrator_view};
     ghost use Rattle.csi_orchestrator.specs.Public.RowMoves.{IsRefusal};
-    ghost use Rattle.csi_orchestrator.specs.Public.Promises.{FollowsUnrefused, IsAnsweredAs, IsHeardAs};
+    ghost use Rattle.csi_orchestrator.specs.Public.Promises.{AnswersAsked, FollowsUnrefused, IsHeardAs};
     ghost use Rattle.csi_orchestrator.specs.Public.Listing.{ListsKnown, IsInOrder};
     ghost use Rattle.csi_orchestrator.specs.Public.Sound.{AreSoundParts};
     ghost use Rattle.csi_orchestrator.specs.Public.Bounds.{AreFew, IsRowFew};
-    ghost use Rattle.csi_orchestrator.specs.Public.Changed.{place_by_name, place_by_call, ChangesRowOf, ChangesAsHeard};
+    ghost use Rattle.csi_orchestrator.specs.Public.Changed.{place_by_name, place_by_call, ChangesAsHeard};
     ghost use Rattle.csi_orchestrator.specs.Public.Record.{AreNodesFit};
     ghost use Rattle.csi_orchestrator.specs.Public.Beginning.{restart_refusal, restarted_parts, parts_at_loss};
     ghost use Rattle.csi_orchestrator.specs.Public.Laws.{opened_parts};
@@ -193,21 +193,7 @@ impl Orchestrator {
         limit: u64,
         capabilities: CapabilityList,
     ) -> Result<Option<Frame>, OrchFault>
-        ensures ok { (history : History) → IsWellFormed history → Shows self.old history →
-            IfOk result (λ sent. FollowsUnrefused history (moves history (ToCreate name (record {
-              required = required;
-              limit = limit;
-              capabilities = capabilities;
-            }))) (Sends sent) self.new) }
-        ensures err { (history : History) → IsWellFormed history → Shows self.old history →
-            IfErr result (IsRefusal (moves history (ToCreate name (record {
-              required = required;
-              limit = limit;
-              capabilities = capabilities;
-            })))) }
-        ensures stays { OnErr result (self.new ≡ self.old) }
-        ensures nodes { self.new.nodes ≡ self.old.nodes }
-        ensures changed { OnOk result (ChangesRowOf name self.old self.new) }
+        ensures { AnswersAsked name (ToCreate name (record { required = required; limit = limit; capabilities = capabilities })) self.old self.new result }
     {
         let arguments = Arguments {
             required,
@@ -230,31 +216,7 @@ impl Orchestrator {
         capability: Capability,
         readonly: bool,
     ) -> Result<Option<Frame>, OrchFault>
-        ensures ok { (history : History) → IsWellFormed history → Shows self.old history →
-            IfOk result (λ sent. FollowsUnrefused history (moves history (ToUse name.now (record {
-              node = node;
-              target = target;
-              capability = capability;
-              readonly = readonly;
-            }))) (Sends sent) self.new) }
-        ensures err { (history : History) → IsWellFormed history → Shows self.old history →
-            IfErr result (IsRefusal (moves history (ToUse name.now (record {
-              node = node;
-              target = target;
-              capability = capability;
-              readonly = readonly;
-            })))) }
-        ensures met { (history : History) → IsWellFormed history → Shows self.old history →
-            IsAnsweredAs (Sends None) (moves history (ToUse name.now (record {
-              node = node;
-              target = target;
-              capability = capability;
-              readonly = readonly;
-            }))) → IsOk result }
-        ensures stays { OnErr result (self.new ≡ self.old) }
-        ensures nodes { self.new.nodes ≡ self.old.nodes }
-        ensures changed { OnOk result (ChangesRowOf name.now self.old self.new) }
-        ensures rests { IfOk result (λ sent. sent ≡ None → self.new ≡ self.old) }
+        ensures { AnswersAsked name.now (ToUse name.now (record { node = node; target = target; capability = capability; readonly = readonly })) self.old self.new result }
     {
         let usage = Usage {
             node,
@@ -276,13 +238,7 @@ impl Orchestrator {
         node: NodeId,
         target: Target,
     ) -> Result<Option<Frame>, OrchFault>
-        ensures ok { (history : History) → IsWellFormed history → Shows self.old history →
-            IfOk result (λ sent. FollowsUnrefused history (moves history (ToStop name.now node target)) (Sends sent) self.new) }
-        ensures err { (history : History) → IsWellFormed history → Shows self.old history →
-            IfErr result (IsRefusal (moves history (ToStop name.now node target))) }
-        ensures stays { OnErr result (self.new ≡ self.old) }
-        ensures nodes { self.new.nodes ≡ self.old.nodes }
-        ensures changed { OnOk result (ChangesRowOf name.now self.old self.new) }
+        ensures { AnswersAsked name.now (ToStop name.now node target) self.old self.new result }
     {
         self.core.ask(name, Step::Stop { node, target })
     }
@@ -291,15 +247,7 @@ impl Orchestrator {
     /// Refused with the first that holds of `NoSuchVolume`, `NotCreated` (no id was heard) and `InUse`, and, where it may be
     /// there, of `Busy` and `NumbersSpent`. A refusal changes nothing. It takes no memory.
     pub fn delete(&mut self, name: &Name) -> Result<Option<Frame>, OrchFault>
-        ensures ok { (history : History) → IsWellFormed history → Shows self.old history →
-            IfOk result (λ sent. FollowsUnrefused history (moves history (ToDelete name.now)) (Sends sent) self.new) }
-        ensures err { (history : History) → IsWellFormed history → Shows self.old history →
-            IfErr result (IsRefusal (moves history (ToDelete name.now))) }
-        ensures memory { IfErr result (λ fault. fault ≡ Fault.NoMemory → ⊥) }
-        ensures stays { OnErr result (self.new ≡ self.old) }
-        ensures nodes { self.new.nodes ≡ self.old.nodes }
-        ensures changed { OnOk result (ChangesRowOf name.now self.old self.new) }
-        ensures rests { IfOk result (λ sent. sent ≡ None → self.new ≡ self.old) }
+        ensures { AnswersAsked name.now (ToDelete name.now) self.old self.new result }
     {
         self.core.ask(name, Step::Delete)
     }
@@ -309,13 +257,7 @@ impl Orchestrator {
     /// what it was for is undone. Refused with the first that holds of `NoSuchVolume`, `Idle`, `NumbersSpent` and
     /// `NoMemory`. A refusal changes nothing, the open call included.
     pub fn timeout(&mut self, name: &Name) -> Result<Option<Frame>, OrchFault>
-        ensures ok { (history : History) → IsWellFormed history → Shows self.old history →
-            IfOk result (λ sent. FollowsUnrefused history (moves history (TimesOut name.now)) (Sends sent) self.new) }
-        ensures err { (history : History) → IsWellFormed history → Shows self.old history →
-            IfErr result (IsRefusal (moves history (TimesOut name.now))) }
-        ensures stays { OnErr result (self.new ≡ self.old) }
-        ensures nodes { self.new.nodes ≡ self.old.nodes }
-        ensures changed { OnOk result (ChangesRowOf name.now self.old self.new) }
+        ensures { AnswersAsked name.now (TimesOut name.now) self.old self.new result }
     {
         self.core.ask(name, Step::TimeOut)
     }
