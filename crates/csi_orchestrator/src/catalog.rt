@@ -114,8 +114,7 @@ impl Catalog {
     /// Notes a call of the row at this index. It takes no memory. Notes are renewed seldom: after one for each row, or for each that
     /// there was room for.
     pub fn note(&mut self, call: u64, index: usize)
-        requires ready { IsReady self.old index (Some call) }
-        requires within { index < index_map_len self.old.rows }
+        requires { IsReady self.old index (Some call) }
         ensures rows { self.new.rows ≡ self.old.rows }
         ensures indexed { IsIndexed self.new }
         ensures known { (last : ℕ) → AreUpTo last self.old → last < call → AreUpTo call self.new }

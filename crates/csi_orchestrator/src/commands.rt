@@ -34,7 +34,6 @@ impl OrchestratorCore {
         requires ready { IsReady self.old.catalog index (outgoing_call_number next) }
         requires known { AreUpTo self.old.last.call self.old.catalog }
         requires after { IsNumberedAfter self.old.last.call next }
-        requires within { index < index_map_len self.old.catalog.rows }
         ensures frame { result ≡ outgoing_frame next }
         ensures parts { orchestrator_parts_shown self.new ≡ record {
           nodes = self.old.nodes.items;

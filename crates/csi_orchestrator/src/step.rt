@@ -1,5 +1,6 @@
 //! What is asked of a volume or comes for it, and what becomes of its row.
 ghost use Rattle.std.specs.Prelude.{◌≡◌, false, Some, IfErr, IsOk, OnOk, OnErr};
+ghost use Rattle.csi_orchestrator.specs.Private.RowChanges.{Becomes};
 ghost use Rattle.csi_orchestrator.specs.Private.RowSteps.{timed_out, failed, row_before_call, needs_entry, row_sends_due, row_step, MovesRow};
 ghost use Rattle.csi_orchestrator.specs.Private.Hearing.{IsDueSuccess};
 ghost use Rattle.csi_orchestrator.specs.Public.Shown.{row_shown};
@@ -61,8 +62,7 @@ fn fail(row: &mut Row)
 
 // The row takes the step. A refusal changes nothing; only a use takes memory.
 fn change(alloc: Global, row: &mut Row, step: Step) -> Result<(), OrchFault>
-    ensures ok { OnOk result (row_shown row.new ≡ row_before_call step (row_shown row.old)) }
-    ensures stays { OnErr result (row_shown row.new ≡ row_shown row.old) }
+    ensures changed { Becomes (row_before_call step (row_shown row.old)) (row_shown row.old) (row_shown row.new) result }
     ensures memory { IfErr result (λ fault. fault ≡ OrchFault.NoMemory) }
     ensures sure { needs_entry step ≡ false → IsOk result }
 {

@@ -13,6 +13,7 @@ use Rattle.csi_orchestrator.specs.Public.Catalog.{rows_of, by_name, place_noted,
 
 -- the same, but that this call of the row at this place isn't noted yet
 pub record IsReady (catalog : Catalog) (place : ℕ) (next : Option ℕ) : Type 0 where
+  pub within : place < index_map_len catalog.rows
   pub rows : catalog.rows.entries ≡ map by_name (rows_of catalog)
   pub found : (other : ℕ) (row : Row) (kept : OpenCall) → IsAt (rows_of catalog) other row → row.open_call ≡ Some kept
       → (place_noted catalog kept.number.call ≡ Some other) ⊎ ((other ≡ place) × (next ≡ Some kept.number.call))

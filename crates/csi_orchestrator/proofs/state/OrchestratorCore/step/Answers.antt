@@ -2,7 +2,7 @@
 use Rattle.csi_orchestrator.proofs.Words.{ℕ, List, refl, sym, ◌∙◌, ap, subst, orchestrator_parts_shown, row_step}
 use Rattle.csi_orchestrator.proofs.Words.{SendsNothing, IsRefusal, row_shown}
 use Rattle.csi_orchestrator.proofs.RowsByName.{step-refused, step-told, step-quiet, rows-stay}
-use Rattle.csi_orchestrator.proofs.RowsUnderNames.{within-set, indexed-refused}
+use Rattle.csi_orchestrator.proofs.RowsUnderNames.{indexed-refused}
 use Rattle.csi_orchestrator.proofs.OpenCalls.{ready-told}
 use Rattle.csi_orchestrator.proofs.DueAfterStep.{passed-on, holds-at_err, at-err-ok}
 use Rattle.csi_orchestrator.proofs.state.OrchestratorCore.step.Goals as goal
@@ -47,9 +47,6 @@ issue-requires-clause-after c =
     let row = c.index_mut-row.result.now in
     (ready-told core.catalog c.deref.result.now core.last c.args.index row c.take.new.row c.args.step c.in_ok-next.next
     c.requires.filed.indexed c.requires.filed.known c.index_mut-row.ensures.value c.in_ok-next.ensures.ok).1
-
-pub issue-requires-clause-within : goal.issue-requires-clause-within
-issue-requires-clause-within c = within-set c.args.self.now.catalog c.args.index c.args.index c.take.new.row c.requires.within
 
 pub returns : goal.returns
 returns c = λ name says at.
