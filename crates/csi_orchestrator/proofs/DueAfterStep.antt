@@ -1,7 +1,7 @@
 -- What is due for a row once it took a step, by what is found before the row is changed.
 use Rattle.csi_orchestrator.proofs.Words.{◌≡◌, ℕ, List, [], Bool, true, false, cond, not, refl, sym, ◌∙◌, ap, subst}
 use Rattle.csi_orchestrator.proofs.Words.{Option, Some, None, is_none, option_and_then, ◌&&◌, ◌||◌, Result, Ok, Err}
-use Rattle.csi_orchestrator.proofs.Words.{IfErr, OnErr, IsErrAnd, list_any, Number, same_text, Send, Use, TargetEntry}
+use Rattle.csi_orchestrator.proofs.Words.{IfErr, IfOk, OnErr, IsErrAnd, list_any, Number, same_text, Send, Use, TargetEntry}
 use Rattle.csi_orchestrator.proofs.Words.{Usage, Step, Attached, Staged, Published, is_no, next_number, Due}
 use Rattle.csi_orchestrator.proofs.Words.{wanted_row, with_entry, entry_for, with_target, new_target_entry}
 use Rattle.csi_orchestrator.proofs.Words.{NodeEntryShown, RowShown, node_entry_of, others_in, marks_at, use_due}
@@ -17,6 +17,11 @@ use Rattle.csi_orchestrator.proofs.RowsAfterNotes.{mark-with-entry, entry-there}
 pub passed-on : {T E : Type 0} {a : E} (r : Result T E) (P : E → Type 0) → IsErrAnd r (λ y. y ≡ a) → P a → IfErr r P
 passed-on (Ok x) P is p = tt
 passed-on (Err y) P is p = subst P (sym is) p
+
+-- nothing is said of what a refusal would have given
+pub at-err-ok : {T E : Type 0} (a : E) (P : T → Type 0) (r : Result T E) → IsErrAnd r (λ y. y ≡ a) → IfOk r P
+at-err-ok a P (Ok x) is = absurd is
+at-err-ok a P (Err y) is = tt
 
 -- what holds in any case holds at a refusal
 pub holds-at_err : {T E P : Type 0} (r : Result T E) → P → OnErr r P

@@ -76,6 +76,7 @@ pub mod Tells
 pub mod Judged
 pub mod FirstEntries
 pub mod AllTold
+pub mod AskedPromises
 pub mod FittedRows
 pub mod EntriesTold
 pub mod RowsTold

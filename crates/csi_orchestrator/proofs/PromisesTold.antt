@@ -1,9 +1,10 @@
 -- What the rows tell is what each call promises.
-use Rattle.csi_orchestrator.proofs.Words.{◌≡◌, refl, sym, ◌∙◌, ap, subst, Result, Ok, Err, IfOk, IfErr, OrchFault}
-use Rattle.csi_orchestrator.proofs.Words.{History, with_items, IsWellFormed, Input, Restarts, Loses, Answer, Moved}
+use Rattle.csi_orchestrator.proofs.Words.{◌≡◌, refl, sym, ◌∙◌, ap, subst, Result, Ok, Err, IfOk, IfErr, OnErr, OrchFault}
+use Rattle.csi_orchestrator.proofs.Words.{History, with_items, IsWellFormed, Input, Restarts, Loses, Restarted, Answer, Moved, moved_unless, restarted_parts}
 use Rattle.csi_orchestrator.proofs.Words.{moves, moved_to, OrchestratorParts, Shows, MovedRows, IsRefusal, row_moves}
 use Rattle.csi_orchestrator.proofs.Words.{IsMoveOf, RowsAnswer, AreSteadyRowsIf, AreSoundRows, HasHistory}
 use Rattle.csi_orchestrator.proofs.Words.{AreSoundParts, IsReached, GoesOn, arith}
+use Rattle.csi_orchestrator.specs.Public.Laws.{RestartsAreTold}
 use Rattle.csi_orchestrator.specs.Public.Promises.{FollowsUnrefused, IsAnsweredAs}
 use Rattle.csi_orchestrator.proofs.AddedItems.{moves-add, stays-formed}
 use Rattle.csi_orchestrator.proofs.SendingAgrees.{Tells}
@@ -93,6 +94,17 @@ moves-nodes parts input result plain h = grind arith
 pub nodes-promised : {R : Type 0} {old now new : OrchestratorParts} {input : Input} {says : R → Answer} {result : Result R OrchFault} → old ≡ now → AreSoundParts old → IsMoveOf old new input says result → IsOfSession input → new.nodes ≡ now.nodes
 nodes-promised {old = old} {input = input} {result = Ok r} is kept told plain = subst (NodesAfter old) told.ok (moves-nodes old input (row_moves old input) plain (row-moved old input kept.sound)) ∙ ap (λ (p : OrchestratorParts). p.nodes) is
 nodes-promised {old = old} {input = input} {result = Err fault} is kept told plain = ap (λ (p : OrchestratorParts). p.nodes) (told.stays ∙ is)
+
+-- a refusal leaves what was shown
+pub stays-promised : {R : Type 0} {old now new : OrchestratorParts} {input : Input} {says : R → Answer} {result : Result R OrchFault} → old ≡ now → IsMoveOf old new input says result → OnErr result (new ≡ now)
+stays-promised {result = Ok r} is told = tt
+stays-promised {result = Err fault} is told = told.stays ∙ is
+
+-- from each history that is shown, a restart that isn't refused is told
+pub restarts-told : (parts : OrchestratorParts) → AreSoundParts parts → RestartsAreTold parts
+restarts-told parts kept = λ history nodes form shown unrefused.
+    is-done parts history (Restarts nodes) (record { answer = Restarted; parts = restarted_parts nodes parts }) kept.sound (all-steady-any parts.rows kept.steady) form shown
+    (ap (λ f. moved_unless f (restarted_parts nodes parts) Restarted) unrefused)
 
 -- where they do, what the history answers the rows answer
 told-so : (history : History) (answer : Answer) (result : Result MovedRows OrchFault) (moved : Result Moved OrchFault) → Tells history result moved → IsAnsweredAs answer moved → RowsAnswer answer result

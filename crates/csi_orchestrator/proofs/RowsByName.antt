@@ -6,7 +6,7 @@ use Rattle.csi_orchestrator.proofs.Words.{orchestrator_parts_shown, Arguments, I
 use Rattle.csi_orchestrator.proofs.Words.{first_fault, moved_rows, IsRefusal, put, outgoing_frame, last_after}
 use Rattle.csi_orchestrator.proofs.Words.{all_rows_moved, steps_at, creates, row_moves, input_asking, RowsAnswer}
 use Rattle.csi_orchestrator.proofs.Words.{RowShown, OrchestratorParts, row_of, row_shown, MovedRow, row_sends_due}
-use Rattle.csi_orchestrator.proofs.Words.{row_unless, row_step, SendsNothing, arith}
+use Rattle.csi_orchestrator.proofs.Words.{row_unless, row_step, SendsNothing, arith, IfOk, IfErr, IsMoveOf, MovedRows, TakesStep}
 use Rattle.csi_orchestrator.proofs.Lemmas.{map-set_same, position-Some, none-some, same_Some, at-index}
 use Rattle.csi_orchestrator.specs.declared.step.Step.TheVariants as steps
 use Rattle.csi_orchestrator.proofs.ChangedEntries.{find-place, find-none_placed, put-place, put-none_placed}
@@ -89,6 +89,21 @@ rows-stay core i r s stands same =
 -- what is asked of a name is told by a step
 pub asked : (parts : OrchestratorParts) (name : List ℕ) (step : Step) (input : Input) → input_asking name step ≡ Some input → steps_at parts Sends step (row_of parts.rows name) ≡ row_moves parts input
 asked parts name step input is = grind (arith, none-some, same_Some)
+
+-- a step that is asked of a name is a move
+pub asked-move : {old new : OrchestratorCore} {step : Step} {name : List ℕ} {result : Result (Option Frame) OrchFault} (input : Input) → input_asking name step ≡ Some input → TakesStep old new Sends step name result
+    → IsMoveOf (orchestrator_parts_shown old) (orchestrator_parts_shown new) input Sends result
+asked-move {old = old} {new = new} {step = step} {name = name} {result = result} input is told =
+    let same = asked (orchestrator_parts_shown old) name step input is in
+    record {
+      ok = subst (λ (t : Result MovedRows OrchFault). IfOk result (λ sent. t ≡ moved_rows (orchestrator_parts_shown new) (Sends sent))) same told.ok;
+      err = subst (λ (t : Result MovedRows OrchFault). IfErr result (IsRefusal t)) same told.err;
+      stays = told.stays;
+    }
+
+-- a frame that is sent is told apart from none
+pub sends-apart : (frame : Frame) → Sends (Some frame) ≡ Sends None → ⊥
+sends-apart frame e = cc
 
 -- what another create of a name is told by
 pub create-asked : (core : OrchestratorCore) (name : List ℕ) (arguments : Arguments) (i : ℕ) → position (λ (row : Row). same_text row.name name) (rows_of core.catalog) ≡ Some i

@@ -97,12 +97,18 @@ IsOpened old next new = (kept : OpenCall) → new ≡ Some kept → (old ≡ Som
 pub next-unnoted : (catalog : Catalog) (last call : ℕ) → AreUpTo last catalog → call ≡ last + 1 → place_noted catalog call ≡ None
 next-unnoted catalog last call known is = grind arith
 
+-- a place of it is one still
+pub within-set : (catalog : Catalog) (place other : ℕ) (new : Row) → other < length catalog.rows.entries → other < length (catalog_with catalog place new).rows.entries
+within-set catalog place other new inside = let long = index_map_len-with_value_at catalog.rows place new in omega (arith, long, inside)
+
 -- once a row went on, only the call that is sent for it isn't noted yet
 pub ready-set : (catalog : Catalog) (last place : ℕ) (row new : Row) (next : Option Outgoing) → IsIndexed catalog → AreUpTo last catalog → slice_get (rows_of catalog) place ≡ Some row → new.name ≡ row.name
     → IsOpened row.open_call next new.open_call → IsNumberedAfter last next → IsReady (catalog_with catalog place new) place (outgoing_call_number next)
 ready-set catalog last place row new next indexed known at name opened after =
     let inside = at-within (rows_of catalog) place row (at-of_get (rows_of catalog) place row at) in
+    let long = length-map catalog.rows.entries (λ (e : List ℕ × Row). e.1) in
     record {
+      within = within-set catalog place place new (omega (arith, long, inside));
       rows = names-set catalog place row new indexed.rows at name;
       found = λ other r kept there is_open. by other r kept is_open (at-set (rows_of catalog) place other new r (subst (λ (rs : List Row). IsAt rs other r) (rows-set catalog place new) there));
       new = λ call is. next-unnoted catalog last call known (after call is);
@@ -158,7 +164,7 @@ rows-added old new row rows = ap values_of rows ∙ map_push (λ (e : List ℕ �
 -- once a row was added, only its own call isn't noted yet
 pub ready-added : (old made new : Catalog) (row : Row) (next : Option ℕ) → IsIndexed made → made.rows ≡ old.rows → AreNotedBefore old made → length (rows_of old) + 2 ≤ spare made.calls
     → new.rows.entries ≡ made.rows.entries ++ by_name row ∷ [] → new.calls ≡ made.calls → IsNextFor old row.open_call next → IsReady new (length (rows_of old)) next
-ready-added old made new row next indexed same kept roomy rows calls is = grind (arith, rows-added, length_push, map_push, at-push)
+ready-added old made new row next indexed same kept roomy rows calls is = grind (arith, rows-added, length_push, length-map, map_push, at-push)
 
 -- a row was closed at its place
 pub closed-at : (catalog : Catalog) (place : ℕ) (row : Row) → slice_get (rows_of catalog) place ≡ Some row → IsClosedAt place (rows_of catalog) (rows_of (catalog_with catalog place (without_call row)))
@@ -179,10 +185,6 @@ closed-nowhere rows place over = grind (arith, at-within)
 pub parts-set : (nodes : List (List ℕ)) (last : Number) (catalog : Catalog) (place : ℕ) (new : Row)
     → (let parts : OrchestratorParts = record { nodes = nodes; last = last; rows = map row_shown (rows_of (catalog_with catalog place new)) } in parts) ≡ record { nodes = nodes; last = last; rows = map row_shown (set (rows_of catalog) place new) }
 parts-set nodes last catalog place new = ap (λ rows. let parts : OrchestratorParts = record { nodes = nodes; last = last; rows = map row_shown rows } in parts) (rows-set catalog place new)
-
--- a place of it is one still
-pub within-set : (catalog : Catalog) (place other : ℕ) (new : Row) → other < length catalog.rows.entries → other < length (catalog_with catalog place new).rows.entries
-within-set catalog place other new inside = let long = index_map_len-with_value_at catalog.rows place new in omega (arith, long, inside)
 
 -- the catalog after a row refused
 pub indexed-refused : (catalog : Catalog) (last place : ℕ) (row new : Row) → IsIndexed catalog → AreUpTo last catalog → slice_get (rows_of catalog) place ≡ Some row → row_shown new ≡ row_shown row → IsIndexed (catalog_with catalog place new)

@@ -107,7 +107,7 @@ pub use Rattle.csi_orchestrator.specs.Private.RowChanges.{new_target_entry, node
 pub use Rattle.csi_orchestrator.specs.Private.RowChanges.{row_wanted_anew, stopped_goal, succeeded_row, target_marked}
 pub use Rattle.csi_orchestrator.specs.Private.RowChanges.{tidied_entries, wanted_row, with_entry, with_kept_targets}
 pub use Rattle.csi_orchestrator.specs.Private.RowChanges.{with_target}
-pub use Rattle.csi_orchestrator.specs.Private.RowMoves.{IsMoveOf, RowsAnswer, all_rows_moved, creates, gives_up}
+pub use Rattle.csi_orchestrator.specs.Private.RowMoves.{IsMoveOf, RowsAnswer, TakesStep, all_rows_moved, creates, gives_up}
 pub use Rattle.csi_orchestrator.specs.Private.RowMoves.{hears_reply, input_asking, is_issued_as, last_after}
 pub use Rattle.csi_orchestrator.specs.Private.RowMoves.{moved_unless, outgoing_frame, parts_after, put, receives}
 pub use Rattle.csi_orchestrator.specs.Private.RowMoves.{row_moves, row_replied, starts_again, step_heard, steps_at}

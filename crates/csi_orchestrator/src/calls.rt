@@ -1,16 +1,13 @@
 //! The call that is due, spelled.
-ghost use Rattle.std.specs.Prelude.{◌≡◌, IfOk, IfErr, IsOk};
+ghost use Rattle.std.specs.Prelude.{◌≡◌, IfOk, IsOk};
 ghost use Rattle.csi_types.specs.declared.call.Call.TheVariants as calls;
 ghost use Rattle.csi_types.specs.declared.call.Kind.TheVariants as kinds;
 ghost use Rattle.csi_types.specs.Model.Call.{kind_of};
-ghost use Rattle.csi_types.specs.Model.Replies.{call_frame};
-ghost use Rattle.csi_orchestrator.specs.declared.fault.OrchFault.{OrchFault as Fault};
-ghost use Rattle.csi_orchestrator.specs.Private.Found.{node_due, party_of_node, call_due};
+ghost use Rattle.csi_orchestrator.specs.Private.Found.{call_due};
 
 use crate::due::Due;
-use crate::fault::OrchFault;
 use crate::request::{Arguments, Usage};
-use csi_types::{Call, Frame, Name, NodeId, Number, Party, Target, VolumeId};
+use csi_types::{Call, Name, NodeId, Target, VolumeId};
 use std::alloc::AllocError;
 
 // The call that makes a volume.
@@ -79,8 +76,8 @@ fn unpublish_call(id: VolumeId, target: &Target) -> Result<Call, AllocError>
     Ok(Call::NodeUnpublishVolume { id, target })
 }
 
-// The call, spelled. For a delete it takes no memory.
-fn call_of(due: &Due<'_>) -> Result<Call, AllocError>
+/// The call, spelled. For a delete it takes no memory.
+pub(crate) fn call_of(due: &Due<'_>) -> Result<Call, AllocError>
     ensures ok { IfOk result (λ call. call ≡ call_due due.now) }
     ensures delete { kind_of (call_due due.now) ≡ kinds.DeleteVolume → IsOk result }
 {
@@ -94,18 +91,4 @@ fn call_of(due: &Due<'_>) -> Result<Call, AllocError>
         Due::Publish { id, usage } => publish_call(*id, usage),
         Due::Unpublish { id, target, .. } => unpublish_call(*id, target),
     }
-}
-
-/// The frame of the call under this number. For a delete it takes no memory.
-pub(crate) fn frame_of(number: Number, due: &Due<'_>) -> Result<Frame, OrchFault>
-    ensures ok { IfOk result (λ frame. frame ≡ call_frame number (party_of_node (node_due due.now)) (call_due due.now)) }
-    ensures err { IfErr result (λ fault. fault ≡ Fault.NoMemory) }
-    ensures delete { kind_of (call_due due.now) ≡ kinds.DeleteVolume → IsOk result }
-{
-    let party = match due.node() {
-        Some(node) => Party::Node(node.clone()?),
-        None => Party::Controller,
-    };
-    let call = call_of(due)?;
-    Ok(Frame::call(number, party, call).unwrap())
 }

@@ -1,13 +1,13 @@
 //! An orchestrator's rows by name, and by the numbers of their open calls. No look-up walks them.
 ghost use Rattle.std.specs.Prelude.{◌≡◌, ℕ, ◌+◌, ◌++◌, ◌∷◌, ◌<◌, ◌≤◌, [], Option, Some, None, length, map, false, slice_get, position};
-ghost use Rattle.std.specs.Prelude.{OnOk, OnErr, IfOk, IfErr, IfSome};
+ghost use Rattle.std.specs.Prelude.{OnOk, OnErr, IfOk, IfErr};
 ghost use Rattle.indexmap.specs.IndexMap.{values, spare, index_map_len};
 ghost use Rattle.std.specs.List.{AllByRecursion};
 ghost use Rattle.csi_types.specs.Model.Members.{EachTwo};
 ghost use Rattle.csi_types.specs.Public.Places.{IsAt};
 ghost use Rattle.csi_types.specs.Model.Same.{same_text};
 ghost use Rattle.csi_orchestrator.specs.Public.Catalog.{rows_of, by_name, place_noted, IsNoted, IsIndexed, AreUpTo, HasFewNotes};
-ghost use Rattle.csi_orchestrator.specs.Private.Catalog.{IsNotedWith, IsNextFor, IsReady, IsClosedAt, IsLostAt, AreNotedBefore};
+ghost use Rattle.csi_orchestrator.specs.Private.Catalog.{IsPlaceIn, IsNotedWith, IsNextFor, IsReady, IsClosedAt, IsLostAt, AreNotedBefore};
 ghost use Rattle.csi_orchestrator.specs.Private.Shown.{without_call};
 ghost use Rattle.csi_orchestrator.specs.Public.Beginning.{remembered, row_at_loss};
 ghost use Rattle.csi_orchestrator.specs.Public.Shown.{row_shown};
@@ -72,8 +72,7 @@ impl Catalog {
     /// Where the row of this name is.
     pub fn index_of(&self, name: &Name) -> Option<usize>
         requires { IsIndexed self.now }
-        ensures index { result ≡ position (λ row. same_text row.name name.now) (rows_of self.now) }
-        ensures within { IfSome result (λ index. index < index_map_len self.now.rows) }
+        ensures { IsPlaceIn self.now (λ row. same_text row.name name.now) result }
     {
         self.rows.get_index_of(name)
     }
@@ -115,8 +114,7 @@ impl Catalog {
     /// Notes a call of the row at this index. It takes no memory. Notes are renewed seldom: after one for each row, or for each that
     /// there was room for.
     pub fn note(&mut self, call: u64, index: usize)
-        requires ready { IsReady self.old index (Some call) }
-        requires within { index < index_map_len self.old.rows }
+        requires { IsReady self.old index (Some call) }
         ensures rows { self.new.rows ≡ self.old.rows }
         ensures indexed { IsIndexed self.new }
         ensures known { (last : ℕ) → AreUpTo last self.old → last < call → AreUpTo call self.new }

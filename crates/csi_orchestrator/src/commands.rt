@@ -1,5 +1,5 @@
 //! What is asked of a volume, and what comes for it, is done at the row of its name.
-ghost use Rattle.std.specs.Prelude.{◌≡◌, ◌<◌, ℕ, List, map, position, slice_get, Option, Some, None, Ok, IfOk, IfErr, IsOk, OnOk, OnErr};
+ghost use Rattle.std.specs.Prelude.{◌≡◌, ◌<◌, ℕ, List, map, position, slice_get, Option, Some, None, Ok, IfOk, IfErr, OnOk, OnErr};
 ghost use Rattle.indexmap.specs.IndexMap.{index_map_len};
 ghost use Rattle.csi_types.specs.Model.Frame.{Frame as FrameShown};
 ghost use Rattle.csi_types.specs.Model.Same.{same_text};
@@ -8,12 +8,12 @@ ghost use Rattle.csi_orchestrator.specs.Private.Catalog.{IsReady, outgoing_call_
 ghost use Rattle.csi_orchestrator.specs.Model.Commands.{next_number};
 ghost use Rattle.csi_orchestrator.specs.Public.CoreParts.{orchestrator_parts_shown, IsFiled};
 ghost use Rattle.csi_orchestrator.specs.Private.Hearing.{IsDueSuccess};
-ghost use Rattle.csi_orchestrator.specs.Model.Moves.{Input, ToCreate, Answer, Sends};
-ghost use Rattle.csi_orchestrator.specs.Private.RowMoves.{outgoing_frame, last_after, steps_at, creates, row_moves, input_asking, RowsAnswer, IsMoveOf};
+ghost use Rattle.csi_orchestrator.specs.Model.Moves.{ToCreate, Answer, Sends};
+ghost use Rattle.csi_orchestrator.specs.Private.RowMoves.{TakesStep, outgoing_frame, last_after, creates, IsMoveOf};
 ghost use Rattle.csi_orchestrator.specs.Public.RowMoves.{IsRefusal};
 ghost use Rattle.csi_orchestrator.specs.Private.RowRefusals.{first_fault as first_refusal};
 ghost use Rattle.csi_orchestrator.specs.Private.RowSteps.{outgoing_by, row_sends_due, row_unless};
-ghost use Rattle.csi_orchestrator.specs.Model.Shown.{RowShown, row_of};
+ghost use Rattle.csi_orchestrator.specs.Model.Shown.{RowShown};
 ghost use Rattle.csi_orchestrator.specs.Public.Shown.{row_shown};
 ghost use Rattle.csi_orchestrator.specs.Public.RowDue.{due_in};
 
@@ -34,7 +34,6 @@ impl OrchestratorCore {
         requires ready { IsReady self.old.catalog index (outgoing_call_number next) }
         requires known { AreUpTo self.old.last.call self.old.catalog }
         requires after { IsNumberedAfter self.old.last.call next }
-        requires within { index < index_map_len self.old.catalog.rows }
         ensures frame { result ≡ outgoing_frame next }
         ensures parts { orchestrator_parts_shown self.new ≡ record {
           nodes = self.old.nodes.items;
@@ -59,18 +58,8 @@ impl OrchestratorCore {
         requires filed { IsFiled self.old }
         requires within { index < index_map_len self.old.catalog.rows }
         requires fits { (row : Row) → slice_get (rows_of self.old.catalog) index ≡ Some row → IsDueSuccess step (row_shown row) }
-        ensures ok { (name : List ℕ) (answer : Option FrameShown → Answer) → position (λ row. same_text row.name name) (rows_of self.old.catalog) ≡ Some index
-            → IfOk result (λ sent. steps_at (orchestrator_parts_shown self.old) answer step
-            (row_of (map row_shown (rows_of self.old.catalog)) name) ≡ Ok (record { answer = answer sent; parts = orchestrator_parts_shown self.new })) }
-        ensures err { (name : List ℕ) (answer : Option FrameShown → Answer) → position (λ row. same_text row.name name) (rows_of self.old.catalog) ≡ Some index
-            → IfErr result (IsRefusal (steps_at (orchestrator_parts_shown self.old) answer step (row_of (map row_shown (rows_of self.old.catalog)) name))) }
-        ensures stays { OnErr result (orchestrator_parts_shown self.new ≡ orchestrator_parts_shown self.old) }
-        ensures filed { IsFiled self.new }
-        ensures quiet { (name : List ℕ) (answer : Option FrameShown → Answer) → ((frame : FrameShown) → answer (Some frame) ≡ answer None → ⊥) →
-            position (λ row. same_text row.name name) (rows_of self.old.catalog) ≡ Some index
-            → RowsAnswer (answer None) (steps_at (orchestrator_parts_shown self.old) answer step
-            (row_of (map row_shown (rows_of self.old.catalog)) name)) → IsOk result }
-        ensures delete { step ≡ Step.Delete → IfErr result (λ fault. fault ≡ OrchFault.NoMemory → ⊥) }
+        ensures { (name : List ℕ) (says : Option FrameShown → Answer) → position (λ row. same_text row.name name) (rows_of self.old.catalog) ≡ Some index
+            → TakesStep self.old self.new says step name result }
     {
         let row = &mut self.catalog.rows[index];
         let next = take(self.alloc, row, &self.nodes, self.last, step)?;
@@ -81,13 +70,7 @@ impl OrchestratorCore {
     pub fn ask(&mut self, name: &Name, step: Step) -> Result<Option<Frame>, OrchFault>
         requires filed { IsFiled self.old }
         requires fits { (row : RowShown) → IsDueSuccess step row }
-        ensures told { (input : Input) → input_asking name.now step ≡ Some input →
-            IsMoveOf (orchestrator_parts_shown self.old) (orchestrator_parts_shown self.new) input Sends result }
-        ensures stays { OnErr result (orchestrator_parts_shown self.new ≡ orchestrator_parts_shown self.old) }
-        ensures filed { IsFiled self.new }
-        ensures quiet { (input : Input) → input_asking name.now step ≡ Some input →
-            RowsAnswer (Sends None) (row_moves (orchestrator_parts_shown self.old) input) → IsOk result }
-        ensures delete { step ≡ Step.Delete → IfErr result (λ fault. fault ≡ OrchFault.NoMemory → ⊥) }
+        ensures { TakesStep self.old self.new Sends step name.now result }
     {
         match self.catalog.index_of(name) {
             Some(index) => self.step(index, step),

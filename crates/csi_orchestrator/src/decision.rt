@@ -2,7 +2,6 @@
 //! first reason that holds.
 ghost use Rattle.std.specs.Prelude.{◌≡◌, ◌||◌, ◌&&◌, map, not, is_none, Some};
 ghost use Rattle.csi_orchestrator.specs.Model.Thing.{is_no};
-ghost use Rattle.csi_orchestrator.specs.Model.Commands.{next_number as number_after};
 ghost use Rattle.csi_orchestrator.specs.Private.Decisions.{refused_or, decided_then, decided, decided_at, is_used_at};
 ghost use Rattle.csi_orchestrator.specs.Public.Shown.{row_shown, node_entry_shown};
 ghost use Rattle.csi_orchestrator.specs.Private.RowRefusals.{first_fault as first_refusal, again_fault as again_refusal, use_refusal};
@@ -19,6 +18,7 @@ use crate::sharing::{
 };
 use crate::state::{node_entry_at, published_at};
 use crate::step::Step;
+use crate::thing::Known;
 use csi_types::{MAX_ROWS, NodeId, Number, Target, VolumeId, allows_one_target, has_capability};
 
 /// The most other targets of a node at which a volume may be published when it is to be published there.
@@ -40,18 +40,11 @@ pub(crate) enum Decision {
     Send,
 }
 
-// Whether the session has no number left.
-fn is_used_up(last: Number) -> bool
-    ensures { result ≡ is_none (number_after last) }
-{
-    next_number(last).is_none()
-}
-
 /// Why the first create of a name is refused.
 pub(crate) fn first_fault(rows: &[Row], last: Number) -> Option<OrchFault>
     ensures { result ≡ first_refusal last (map row_shown rows.now) }
 {
-    if is_used_up(last) {
+    if next_number(last).is_none() {
         return Some(OrchFault::NumbersSpent);
     }
     if rows.len() >= MAX_ROWS {
@@ -67,7 +60,7 @@ fn decide_create(last: Number, row: &Row) -> Decision
     if row.id.is_some() || row.goal.is_some() {
         return Decision::Refuse(OrchFault::NameUsed);
     }
-    if is_used_up(last) {
+    if next_number(last).is_none() {
         return Decision::Refuse(OrchFault::NumbersSpent);
     }
     Decision::Send
@@ -103,7 +96,7 @@ fn decide_at(
     if is_met(id, entry, &usage.target) {
         return Decision::Met;
     }
-    if is_used_up(last) {
+    if next_number(last).is_none() {
         return Decision::Refuse(OrchFault::NumbersSpent);
     }
     if others >= MAX_OTHERS || others_attached >= MAX_NODES {
@@ -116,7 +109,7 @@ fn decide_at(
 fn decide_use(nodes: &[NodeId], last: Number, row: &Row, usage: &Usage) -> Decision
     ensures { result ≡ refused_or (use_refusal nodes.now usage.now (row_shown row.now)) (decided_then last (Step.Use usage.now) (row_shown row.now)) }
 {
-    if !row.exists.is_yes() {
+    if !matches!(row.exists, Known::Yes) {
         return Decision::Refuse(OrchFault::NotCreated);
     }
     if row.goal.is_some() {
@@ -141,7 +134,7 @@ fn decide_use(nodes: &[NodeId], last: Number, row: &Row, usage: &Usage) -> Decis
     match node_entry_at(row, &usage.node) {
         Some(entry) => decide_at(last, usage, others, row.id, entry),
         None if row.id.is_none() => Decision::Met,
-        None if is_used_up(last) => Decision::Refuse(OrchFault::NumbersSpent),
+        None if next_number(last).is_none() => Decision::Refuse(OrchFault::NumbersSpent),
         None if others >= MAX_NODES => Decision::Refuse(OrchFault::Full),
         None => Decision::Send,
     }
@@ -178,7 +171,7 @@ fn decide_stop(
     if !left && marks.published.is_no() {
         return Decision::Refuse(OrchFault::NoSuchTarget);
     }
-    if is_used_up(last) {
+    if next_number(last).is_none() {
         return Decision::Refuse(OrchFault::NumbersSpent);
     }
     Decision::Send
@@ -200,7 +193,7 @@ fn decide_delete(last: Number, row: &Row) -> Decision
     if row.goal.is_some() {
         return Decision::Refuse(OrchFault::Busy);
     }
-    if is_used_up(last) {
+    if next_number(last).is_none() {
         return Decision::Refuse(OrchFault::NumbersSpent);
     }
     Decision::Send

@@ -12,6 +12,7 @@ ghost use Rattle.csi_orchestrator.specs.Private.Found.{due_shown, node_due, call
 use crate::marks::Marks;
 use crate::request::{Arguments, Usage};
 use crate::row::{Goal, Row};
+use crate::thing::Known;
 use csi_types::{Kind, Name, NodeId, Number, Party, Target, VolumeId};
 
 /// The call that is due, with what it is spelled by.
@@ -69,13 +70,13 @@ pub(crate) fn create_due<'a>(
 pub(crate) fn use_due<'a>(id: VolumeId, marks: Marks, usage: &'a Usage) -> Option<Due<'a>>
     ensures { option_map due_shown result ≡ use_told usage.now marks id }
 {
-    if !marks.attached.is_yes() {
+    if !matches!(marks.attached, Known::Yes) {
         return Some(Due::Attach { id, usage });
     }
-    if !marks.staged.is_yes() {
+    if !matches!(marks.staged, Known::Yes) {
         return Some(Due::Stage { id, usage });
     }
-    if !marks.published.is_yes() {
+    if !matches!(marks.published, Known::Yes) {
         return Some(Due::Publish { id, usage });
     }
     None

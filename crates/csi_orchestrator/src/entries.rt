@@ -1,8 +1,8 @@
 //! The entries of a row: where they stand, and how they are marked, tidied and added.
-ghost use Rattle.std.specs.Prelude.{◌≡◌, map, find, position, Some, None, IfOk, OnOk, OnErr};
+ghost use Rattle.std.specs.Prelude.{◌≡◌, map, find, position, Some};
 ghost use Rattle.csi_types.specs.Model.Same.{same_text};
 ghost use Rattle.csi_orchestrator.specs.Public.Shown.{node_entry_shown};
-ghost use Rattle.csi_orchestrator.specs.Private.RowChanges.{aspect_of, node_marked, marked_at, target_marked};
+ghost use Rattle.csi_orchestrator.specs.Private.RowChanges.{Becomes, aspect_of, marked_at, target_marked};
 ghost use Rattle.csi_orchestrator.specs.Private.RowChanges.{is_target_kept as is_kept_target, is_node_kept as is_kept_shown};
 ghost use Rattle.csi_orchestrator.specs.Private.RowChanges.{with_kept_targets, tidied_entries, with_target, entry_for};
 ghost use Rattle.csi_orchestrator.specs.Private.Keyed.{put_by};
@@ -46,20 +46,6 @@ fn mark_target(target_entries: &mut Vec<TargetEntry>, target: &Target, known: Kn
     }
 }
 
-// Marks in the entry of a node what a call of this kind does or undoes there.
-fn mark_entry(entry: &mut NodeEntry, target: &Target, kind: Kind, known: Known)
-    ensures { node_entry_shown entry.new ≡ node_marked known (aspect_of kind) target.now (node_entry_shown entry.old) }
-{
-    match kind {
-        Kind::CreateVolume | Kind::DeleteVolume => {}
-        Kind::ControllerPublishVolume | Kind::ControllerUnpublishVolume => entry.attached = known,
-        Kind::NodeStageVolume | Kind::NodeUnstageVolume => entry.staged = known,
-        Kind::NodePublishVolume | Kind::NodeUnpublishVolume => {
-            mark_target(&mut entry.target_entries, target, known)
-        }
-    }
-}
-
 /// Marks what a call of this kind does or undoes at the node and the target, if the node has an entry.
 pub(crate) fn mark_at(
     entries: &mut Vec<NodeEntry>,
@@ -71,7 +57,17 @@ pub(crate) fn mark_at(
     ensures { map node_entry_shown entries.new.items ≡ marked_at known (aspect_of kind) node.now target.now (map node_entry_shown entries.old.items) }
 {
     if let Some(index) = node_index(entries, node) {
-        mark_entry(&mut entries[index], target, kind, known);
+        let entry = &mut entries[index];
+        match kind {
+            Kind::CreateVolume | Kind::DeleteVolume => {}
+            Kind::ControllerPublishVolume | Kind::ControllerUnpublishVolume => {
+                entry.attached = known;
+            }
+            Kind::NodeStageVolume | Kind::NodeUnstageVolume => entry.staged = known,
+            Kind::NodePublishVolume | Kind::NodeUnpublishVolume => {
+                mark_target(&mut entry.target_entries, target, known);
+            }
+        }
     }
 }
 
@@ -108,8 +104,7 @@ pub(crate) fn tidy(entries: &mut Vec<NodeEntry>)
 
 // Adds the target, unless it has an entry. A refusal changes nothing.
 fn add_target(target_entries: &mut Vec<TargetEntry>, target: &Target) -> Result<(), NoMemory>
-    ensures ok { OnOk result (target_entries.new.items ≡ with_target target.now target_entries.old.items) }
-    ensures err { OnErr result (target_entries.new.items ≡ target_entries.old.items) }
+    ensures { Becomes (with_target target.now target_entries.old.items) target_entries.old.items target_entries.new.items result }
 {
     if target_index(target_entries, target).is_some() {
         return Ok(());
@@ -122,28 +117,9 @@ fn add_target(target_entries: &mut Vec<TargetEntry>, target: &Target) -> Result<
     Ok(())
 }
 
-// An entry of the node of a use.
-fn new_node_entry(alloc: Global, usage: &Usage) -> Result<NodeEntry, NoMemory>
-    ensures { IfOk result (λ entry. node_entry_shown entry ≡ entry_for usage.now None) }
-{
-    let mut target_entries = Vec::new(alloc);
-    add_target(&mut target_entries, &usage.target)?;
-    let node = usage.node.clone()?;
-    let capability = usage.capability.clone()?;
-    Ok(NodeEntry {
-        node,
-        capability,
-        readonly: usage.readonly,
-        attached: Known::No,
-        staged: Known::No,
-        target_entries,
-    })
-}
-
 // Adds what the entry of its node lacks for a use. A refusal changes nothing.
 fn add_to(entry: &mut NodeEntry, usage: &Usage) -> Result<(), NoMemory>
-    ensures ok { OnOk result (node_entry_shown entry.new ≡ entry_for usage.now (Some (node_entry_shown entry.old))) }
-    ensures err { OnErr result (node_entry_shown entry.new ≡ node_entry_shown entry.old) }
+    ensures { Becomes (entry_for usage.now (Some (node_entry_shown entry.old))) (node_entry_shown entry.old) (node_entry_shown entry.new) result }
 {
     if !entry.attached.is_no() {
         return add_target(&mut entry.target_entries, &usage.target);
@@ -161,17 +137,25 @@ pub(crate) fn add_node(
     entries: &mut Vec<NodeEntry>,
     usage: &Usage,
 ) -> Result<(), NoMemory>
-    ensures ok { OnOk result (map node_entry_shown entries.new.items
-        ≡ put_by (λ entry. entry.node)
+    ensures { Becomes (put_by (λ entry. entry.node)
         (entry_for usage.now (find (λ entry. same_text entry.node usage.now.node) (map node_entry_shown entries.old.items)))
-        (map node_entry_shown entries.old.items)) }
-    ensures err { OnErr result (map node_entry_shown entries.new.items ≡ map node_entry_shown entries.old.items) }
+        (map node_entry_shown entries.old.items)) (map node_entry_shown entries.old.items) (map node_entry_shown entries.new.items) result }
 {
     match node_index(entries, &usage.node) {
         Some(index) => add_to(&mut entries[index], usage),
         None => {
-            let entry = new_node_entry(alloc, usage)?;
-            entries.push(entry)?;
+            let mut target_entries = Vec::new(alloc);
+            add_target(&mut target_entries, &usage.target)?;
+            let node = usage.node.clone()?;
+            let capability = usage.capability.clone()?;
+            entries.push(NodeEntry {
+                node,
+                capability,
+                readonly: usage.readonly,
+                attached: Known::No,
+                staged: Known::No,
+                target_entries,
+            })?;
             Ok(())
         }
     }

@@ -44,7 +44,7 @@ pub fn moves_law()
 pub fn showing_law(orchestrator: &Orchestrator)
     ensures { HasHistory orchestrator.now }
 {
-    orchestrator.assert_kept();
+    let _session = orchestrator.session();
 }
 
 /// A law, and nothing that runs: every orchestrator keeps of a volume of which nothing is wanted only the nodes at which it may be
@@ -52,7 +52,7 @@ pub fn showing_law(orchestrator: &Orchestrator)
 pub fn entries_law(orchestrator: &Orchestrator)
     ensures { AllByRecursion KeepsWhatIsNeeded orchestrator.now.rows }
 {
-    orchestrator.assert_kept();
+    let _session = orchestrator.session();
 }
 
 /// A law, and nothing that runs: whatever it was asked and whatever came, the rows of every orchestrator, once their open calls are given
@@ -62,7 +62,7 @@ pub fn entries_law(orchestrator: &Orchestrator)
 pub fn rows_law(orchestrator: &Orchestrator)
     ensures { AreRestorable orchestrator.now.nodes (map closed orchestrator.now.rows) }
 {
-    orchestrator.assert_kept();
+    let _session = orchestrator.session();
 }
 
 /// A law, and nothing that runs: whatever rows keep the rules of rows (`rows_law`), what is opened from a record of them has a history, in
@@ -77,7 +77,7 @@ pub fn records_law()
 pub fn restart_law(orchestrator: &Orchestrator)
     ensures { RestartsAreTold orchestrator.now }
 {
-    orchestrator.assert_kept();
+    let _session = orchestrator.session();
 }
 
 /// A law, and nothing that runs: every orchestrator keeps at most 4,096 names, for each of them at most 64 entries, and for each
@@ -85,5 +85,5 @@ pub fn restart_law(orchestrator: &Orchestrator)
 pub fn bounds_law(orchestrator: &Orchestrator)
     ensures { IsBounded orchestrator.now }
 {
-    orchestrator.assert_kept();
+    let _session = orchestrator.session();
 }

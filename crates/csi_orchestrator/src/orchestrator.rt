@@ -47,26 +47,19 @@ impl Model for Orchestrator {
 impl Orchestrator {
     ghost use Rattle.csi_orchestrator.specs.Model.History.{History, new_history, history_after};
     ghost use Rattle.csi_orchestrator.specs.Model.WellFormed.{IsWellFormed};
-    ghost use Rattle.csi_orchestrator.specs.Model.Moves.{ToCreate, ToUse, ToStop, ToDelete, TimesOut, Comes, Restarts, Loses, Sends, Hears, Restarted, GivenUp, moves};
+    ghost use Rattle.csi_orchestrator.specs.Model.Moves.{ToCreate, ToUse, ToStop, ToDelete, TimesOut, Comes, Restarts, Loses, Hears, Restarted, GivenUp, moves};
     ghost use Rattle.csi_orchestrator.specs.Model.Readings.{known, last_number};
     ghost use Rattle.csi_orchestrator.specs.Model.Shown.{Shows, orchestrator_view};
     ghost use Rattle.csi_orchestrator.specs.Public.RowMoves.{IsRefusal};
-    ghost use Rattle.csi_orchestrator.specs.Public.Promises.{FollowsUnrefused, IsAnsweredAs, IsHeardAs};
+    ghost use Rattle.csi_orchestrator.specs.Public.Promises.{AnswersAsked, FollowsUnrefused, IsHeardAs};
     ghost use Rattle.csi_orchestrator.specs.Public.Listing.{ListsKnown, IsInOrder};
     ghost use Rattle.csi_orchestrator.specs.Public.Sound.{AreSoundParts};
     ghost use Rattle.csi_orchestrator.specs.Public.Bounds.{AreFew, IsRowFew};
-    ghost use Rattle.csi_orchestrator.specs.Public.Changed.{place_by_name, place_by_call, ChangesRowOf, ChangesAsHeard};
+    ghost use Rattle.csi_orchestrator.specs.Public.Changed.{place_by_name, place_by_call, ChangesAsHeard};
     ghost use Rattle.csi_orchestrator.specs.Public.Record.{AreNodesFit};
     ghost use Rattle.csi_orchestrator.specs.Public.Beginning.{restart_refusal, restarted_parts, parts_at_loss};
     ghost use Rattle.csi_orchestrator.specs.Public.Laws.{opened_parts};
     ghost use Rattle.csi_orchestrator.specs.Public.Shown.{row_shown, closed};
-
-    // What its type keeps of what it shows. It does nothing.
-    pub(crate) fn assert_kept(&self)
-        ensures { AreSoundParts self.now }
-    {
-        let _core = &self.core;
-    }
 
     /// An orchestrator of these nodes that did nothing, in session 1. It takes no memory.
     pub fn new(alloc: Global, nodes: Vec<NodeId>) -> Orchestrator
@@ -134,10 +127,11 @@ impl Orchestrator {
         OrchestratorRecord::of_core(core)
     }
 
-    /// The session in which its next call is numbered.
+    /// The session in which its next call is numbered. By it callers have what the type keeps of what it shows.
     pub fn session(&self) -> u64
         ensures value { result ≡ self.now.last.session }
         ensures agrees { (history : History) → Shows self.now history → result ≡ (last_number history).session }
+        ensures kept { AreSoundParts self.now }
     {
         self.core.last.session
     }
@@ -155,7 +149,7 @@ impl Orchestrator {
         ensures value { map row_shown result.now ≡ self.now.rows }
         ensures few { AllByRecursion IsRowFew result.now }
     {
-        self.core.catalog.rows()
+        self.core.catalog.rows.values().as_slice()
     }
 
     /// Where the row of this name stands among the rows. It takes no memory.
@@ -199,21 +193,7 @@ impl Orchestrator {
         limit: u64,
         capabilities: CapabilityList,
     ) -> Result<Option<Frame>, OrchFault>
-        ensures ok { (history : History) → IsWellFormed history → Shows self.old history →
-            IfOk result (λ sent. FollowsUnrefused history (moves history (ToCreate name (record {
-              required = required;
-              limit = limit;
-              capabilities = capabilities;
-            }))) (Sends sent) self.new) }
-        ensures err { (history : History) → IsWellFormed history → Shows self.old history →
-            IfErr result (IsRefusal (moves history (ToCreate name (record {
-              required = required;
-              limit = limit;
-              capabilities = capabilities;
-            })))) }
-        ensures stays { OnErr result (self.new ≡ self.old) }
-        ensures nodes { self.new.nodes ≡ self.old.nodes }
-        ensures changed { OnOk result (ChangesRowOf name self.old self.new) }
+        ensures { AnswersAsked name (ToCreate name (record { required = required; limit = limit; capabilities = capabilities })) self.old self.new result }
     {
         let arguments = Arguments {
             required,
@@ -236,31 +216,7 @@ impl Orchestrator {
         capability: Capability,
         readonly: bool,
     ) -> Result<Option<Frame>, OrchFault>
-        ensures ok { (history : History) → IsWellFormed history → Shows self.old history →
-            IfOk result (λ sent. FollowsUnrefused history (moves history (ToUse name.now (record {
-              node = node;
-              target = target;
-              capability = capability;
-              readonly = readonly;
-            }))) (Sends sent) self.new) }
-        ensures err { (history : History) → IsWellFormed history → Shows self.old history →
-            IfErr result (IsRefusal (moves history (ToUse name.now (record {
-              node = node;
-              target = target;
-              capability = capability;
-              readonly = readonly;
-            })))) }
-        ensures met { (history : History) → IsWellFormed history → Shows self.old history →
-            IsAnsweredAs (Sends None) (moves history (ToUse name.now (record {
-              node = node;
-              target = target;
-              capability = capability;
-              readonly = readonly;
-            }))) → IsOk result }
-        ensures stays { OnErr result (self.new ≡ self.old) }
-        ensures nodes { self.new.nodes ≡ self.old.nodes }
-        ensures changed { OnOk result (ChangesRowOf name.now self.old self.new) }
-        ensures rests { IfOk result (λ sent. sent ≡ None → self.new ≡ self.old) }
+        ensures { AnswersAsked name.now (ToUse name.now (record { node = node; target = target; capability = capability; readonly = readonly })) self.old self.new result }
     {
         let usage = Usage {
             node,
@@ -282,13 +238,7 @@ impl Orchestrator {
         node: NodeId,
         target: Target,
     ) -> Result<Option<Frame>, OrchFault>
-        ensures ok { (history : History) → IsWellFormed history → Shows self.old history →
-            IfOk result (λ sent. FollowsUnrefused history (moves history (ToStop name.now node target)) (Sends sent) self.new) }
-        ensures err { (history : History) → IsWellFormed history → Shows self.old history →
-            IfErr result (IsRefusal (moves history (ToStop name.now node target))) }
-        ensures stays { OnErr result (self.new ≡ self.old) }
-        ensures nodes { self.new.nodes ≡ self.old.nodes }
-        ensures changed { OnOk result (ChangesRowOf name.now self.old self.new) }
+        ensures { AnswersAsked name.now (ToStop name.now node target) self.old self.new result }
     {
         self.core.ask(name, Step::Stop { node, target })
     }
@@ -297,15 +247,7 @@ impl Orchestrator {
     /// Refused with the first that holds of `NoSuchVolume`, `NotCreated` (no id was heard) and `InUse`, and, where it may be
     /// there, of `Busy` and `NumbersSpent`. A refusal changes nothing. It takes no memory.
     pub fn delete(&mut self, name: &Name) -> Result<Option<Frame>, OrchFault>
-        ensures ok { (history : History) → IsWellFormed history → Shows self.old history →
-            IfOk result (λ sent. FollowsUnrefused history (moves history (ToDelete name.now)) (Sends sent) self.new) }
-        ensures err { (history : History) → IsWellFormed history → Shows self.old history →
-            IfErr result (IsRefusal (moves history (ToDelete name.now))) }
-        ensures memory { IfErr result (λ fault. fault ≡ Fault.NoMemory → ⊥) }
-        ensures stays { OnErr result (self.new ≡ self.old) }
-        ensures nodes { self.new.nodes ≡ self.old.nodes }
-        ensures changed { OnOk result (ChangesRowOf name.now self.old self.new) }
-        ensures rests { IfOk result (λ sent. sent ≡ None → self.new ≡ self.old) }
+        ensures { AnswersAsked name.now (ToDelete name.now) self.old self.new result }
     {
         self.core.ask(name, Step::Delete)
     }
@@ -315,13 +257,7 @@ impl Orchestrator {
     /// what it was for is undone. Refused with the first that holds of `NoSuchVolume`, `Idle`, `NumbersSpent` and
     /// `NoMemory`. A refusal changes nothing, the open call included.
     pub fn timeout(&mut self, name: &Name) -> Result<Option<Frame>, OrchFault>
-        ensures ok { (history : History) → IsWellFormed history → Shows self.old history →
-            IfOk result (λ sent. FollowsUnrefused history (moves history (TimesOut name.now)) (Sends sent) self.new) }
-        ensures err { (history : History) → IsWellFormed history → Shows self.old history →
-            IfErr result (IsRefusal (moves history (TimesOut name.now))) }
-        ensures stays { OnErr result (self.new ≡ self.old) }
-        ensures nodes { self.new.nodes ≡ self.old.nodes }
-        ensures changed { OnOk result (ChangesRowOf name.now self.old self.new) }
+        ensures { AnswersAsked name.now (TimesOut name.now) self.old self.new result }
     {
         self.core.ask(name, Step::TimeOut)
     }

@@ -1,6 +1,5 @@
 //! What becomes of a frame that came: a reply to an open call is taken, and all else is ignored.
-ghost use Rattle.std.specs.Prelude.{◌≡◌, ◌&&◌, Option, Ok, Err, Some, None, IfSome, OnErr, IsOk, map, position, ◌<◌};
-ghost use Rattle.indexmap.specs.IndexMap.{index_map_len};
+ghost use Rattle.std.specs.Prelude.{◌≡◌, ◌&&◌, Option, Ok, Err, Some, None, OnErr, IsOk, map, position};
 ghost use Rattle.csi_types.specs.Public.Frame.{IsAllowed};
 ghost use Rattle.csi_types.specs.Model.Same.{same_number as is_same_number, same_kind as is_same_kind};
 ghost use Rattle.csi_orchestrator.specs.declared.fault.Heard.TheVariants.{Ignored as IsIgnored};
@@ -8,6 +7,7 @@ ghost use Rattle.csi_orchestrator.specs.Model.Moves.{Comes, Hears, hears};
 ghost use Rattle.csi_orchestrator.specs.Public.Shown.{row_shown};
 ghost use Rattle.csi_orchestrator.specs.Model.Shown.{open_in_row};
 ghost use Rattle.csi_orchestrator.specs.Private.RowMoves.{is_issued_as, row_moves, step_heard, RowsAnswer, IsMoveOf};
+ghost use Rattle.csi_orchestrator.specs.Private.Catalog.{IsPlaceIn};
 ghost use Rattle.csi_orchestrator.specs.Private.Stale.{tells_stale};
 ghost use Rattle.csi_orchestrator.specs.Public.Changed.{is_numbered};
 ghost use Rattle.csi_orchestrator.specs.Public.Stale.{is_stale_reply};
@@ -52,8 +52,7 @@ fn is_replied(row: &Row, number: Number, party: &Party, kind: Kind) -> bool
 // Where the row whose open call has this number, plugin and kind stands.
 fn index_replied(catalog: &Catalog, number: Number, party: &Party, kind: Kind) -> Option<usize>
     requires { IsIndexed catalog.now }
-    ensures index { result ≡ position (λ row. is_issued_as number party.now kind (open_in_row (row_shown row))) (rows_of catalog.now) }
-    ensures within { IfSome result (λ index. index < index_map_len catalog.now.rows) }
+    ensures { IsPlaceIn catalog.now (λ row. is_issued_as number party.now kind (open_in_row (row_shown row))) result }
 {
     match catalog.index_of_call(number.call) {
         Some(index) => match catalog.rows().get(index) {

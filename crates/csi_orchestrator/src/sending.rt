@@ -6,13 +6,13 @@ ghost use Rattle.csi_orchestrator.specs.Private.Found.{due_shown, IsQuiet};
 ghost use Rattle.csi_orchestrator.specs.Public.RowMoves.{IsRefusal};
 ghost use Rattle.csi_orchestrator.specs.Private.RowSteps.{outgoing_by, sent_or_dropped};
 
-use crate::calls::frame_of;
+use crate::calls::call_of;
 use crate::changes::{drop_goal, mark};
 use crate::due::{Due, next_number};
 use crate::fault::OrchFault;
 use crate::row::{OpenCall, Row};
 use crate::thing::Known;
-use csi_types::{Frame, Kind, Number};
+use csi_types::{Frame, Kind, Number, Party};
 
 /// A call to send: its frame, and what the row keeps of it.
 #[derive(Drop)]
@@ -38,9 +38,13 @@ pub(crate) fn outgoing_for(
     let Some(number) = next_number(last) else {
         return Err(OrchFault::NumbersSpent);
     };
-    let frame = frame_of(number, due)?;
+    let party = match due.node() {
+        Some(node) => Party::Node(node.clone()?),
+        None => Party::Controller,
+    };
+    let call = call_of(due)?;
     Ok(Some(Outgoing {
-        frame,
+        frame: Frame::call(number, party, call).unwrap(),
         number,
         kind: due.kind(),
     }))

@@ -1,7 +1,7 @@
 //! What is asked of a volume or comes for it, and what becomes of its row.
-ghost use Rattle.std.specs.Prelude.{◌≡◌, false, Ok, Some, IfOk, IfErr, IsOk, OnOk, OnErr};
-ghost use Rattle.csi_orchestrator.specs.Public.RowMoves.{IsRefusal};
-ghost use Rattle.csi_orchestrator.specs.Private.RowSteps.{timed_out, failed, row_before_call, needs_entry, row_sends_due, row_step, SendsNothing};
+ghost use Rattle.std.specs.Prelude.{◌≡◌, false, Some, IfErr, IsOk, OnOk, OnErr};
+ghost use Rattle.csi_orchestrator.specs.Private.RowChanges.{Becomes};
+ghost use Rattle.csi_orchestrator.specs.Private.RowSteps.{timed_out, failed, row_before_call, needs_entry, row_sends_due, row_step, MovesRow};
 ghost use Rattle.csi_orchestrator.specs.Private.Hearing.{IsDueSuccess};
 ghost use Rattle.csi_orchestrator.specs.Public.Shown.{row_shown};
 
@@ -62,8 +62,7 @@ fn fail(row: &mut Row)
 
 // The row takes the step. A refusal changes nothing; only a use takes memory.
 fn change(alloc: Global, row: &mut Row, step: Step) -> Result<(), OrchFault>
-    ensures ok { OnOk result (row_shown row.new ≡ row_before_call step (row_shown row.old)) }
-    ensures stays { OnErr result (row_shown row.new ≡ row_shown row.old) }
+    ensures changed { Becomes (row_before_call step (row_shown row.old)) (row_shown row.old) (row_shown row.new) result }
     ensures memory { IfErr result (λ fault. fault ≡ OrchFault.NoMemory) }
     ensures sure { needs_entry step ≡ false → IsOk result }
 {
@@ -93,14 +92,8 @@ fn send_due(
     step: Step,
 ) -> Result<Option<Outgoing>, OrchFault>
     requires { IsDueSuccess step (row_shown row.old) }
-    ensures ok { IfOk result (λ next. row_sends_due last (row_before_call step (row_shown row.old)) ≡ Ok (record {
-      outgoing = next;
-      row = row_shown row.new;
-    })) }
-    ensures err { IfErr result (IsRefusal (row_sends_due last (row_before_call step (row_shown row.old)))) }
-    ensures stays { OnErr result (row_shown row.new ≡ row_shown row.old) }
-    ensures quiet { needs_entry step ≡ false → SendsNothing (row_sends_due last (row_before_call step (row_shown row.old))) → IsOk result }
-    ensures delete { step ≡ Step.Delete → IfErr result (λ fault. fault ≡ OrchFault.NoMemory → ⊥) }
+    ensures { MovesRow (row_sends_due last (row_before_call step (row_shown row.old))) step (needs_entry step)
+        (row_shown row.old) (row_shown row.new) result }
 {
     let next = match outgoing_for(last, &due_then(row, &step)) {
         Ok(next) => next,
@@ -127,11 +120,7 @@ pub(crate) fn take(
     step: Step,
 ) -> Result<Option<Outgoing>, OrchFault>
     requires { IsDueSuccess step (row_shown row.old) }
-    ensures ok { IfOk result (λ next. row_step nodes.now last step (row_shown row.old) ≡ Ok (record { outgoing = next; row = row_shown row.new })) }
-    ensures err { IfErr result (IsRefusal (row_step nodes.now last step (row_shown row.old))) }
-    ensures stays { OnErr result (row_shown row.new ≡ row_shown row.old) }
-    ensures quiet { SendsNothing (row_step nodes.now last step (row_shown row.old)) → IsOk result }
-    ensures delete { step ≡ Step.Delete → IfErr result (λ fault. fault ≡ OrchFault.NoMemory → ⊥) }
+    ensures { MovesRow (row_step nodes.now last step (row_shown row.old)) step false (row_shown row.old) (row_shown row.new) result }
 {
     match decide(nodes, last, row, &step) {
         Decision::Refuse(fault) => {

@@ -1,5 +1,5 @@
 -- The rows of a catalog, and how its maps belong to them.
-use Rattle.std.specs.Prelude.{◌≡◌, ◌⊎◌, ℕ, ◌+◌, ◌<◌, ◌≤◌, List, length, map, set, nat_eq, Option, Some, None, option_map}
+use Rattle.std.specs.Prelude.{◌≡◌, ◌⊎◌, ℕ, ◌+◌, ◌<◌, ◌≤◌, List, length, map, set, nat_eq, position, Bool, Option, Some, None, option_map, IfSome}
 use Rattle.indexmap.specs.IndexMap.{spare, index_map_len, Updates}
 use Rattle.csi_types.specs.Public.Places.{IsAt}
 use Rattle.csi_orchestrator.specs.declared.sending.Outgoing.{Outgoing}
@@ -13,6 +13,7 @@ use Rattle.csi_orchestrator.specs.Public.Catalog.{rows_of, by_name, place_noted,
 
 -- the same, but that this call of the row at this place isn't noted yet
 pub record IsReady (catalog : Catalog) (place : ℕ) (next : Option ℕ) : Type 0 where
+  pub within : place < index_map_len catalog.rows
   pub rows : catalog.rows.entries ≡ map by_name (rows_of catalog)
   pub found : (other : ℕ) (row : Row) (kept : OpenCall) → IsAt (rows_of catalog) other row → row.open_call ≡ Some kept
       → (place_noted catalog kept.number.call ≡ Some other) ⊎ ((other ≡ place) × (next ≡ Some kept.number.call))
@@ -20,6 +21,11 @@ pub record IsReady (catalog : Catalog) (place : ℕ) (next : Option ℕ) : Type 
   pub room : HasRoomForCalls catalog
   pub free : 0 < spare catalog.calls
   pub few : HasFewNotes catalog
+
+-- this is where the first row of which this is so stands, if there is one
+pub record IsPlaceIn (catalog : Catalog) (is_it : Row → Bool) (found : Option ℕ) : Type 0 where
+  pub index : found ≡ position is_it (rows_of catalog)
+  pub within : IfSome found (λ index. index < index_map_len catalog.rows)
 
 -- what is noted was noted before
 abbrev pub AreNotedBefore : Catalog → Catalog → Type 0

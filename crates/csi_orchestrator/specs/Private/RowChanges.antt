@@ -1,5 +1,5 @@
 -- What becomes of a row. This profile's own.
-use Rattle.std.specs.Prelude.{ℕ, ◌+◌, List, [], ◌∷◌, ◌++◌, map, filter, find, min, Bool, false, not, ◌&&◌, Option, Some, None, is_some, if◌then◌else◌}
+use Rattle.std.specs.Prelude.{◌≡◌, Result, OnOk, OnErr, ℕ, ◌+◌, List, [], ◌∷◌, ◌++◌, map, filter, find, min, Bool, false, not, ◌&&◌, Option, Some, None, is_some, if◌then◌else◌}
 use Rattle.std.specs.Option.{option_or}
 use Rattle.csi_types.specs.declared.number.Number.{Number}
 use Rattle.csi_types.specs.declared.call.Kind.{Kind}
@@ -15,6 +15,11 @@ use Rattle.csi_orchestrator.specs.Model.Thing.{is_no}
 use Rattle.csi_orchestrator.specs.Model.History.{Arguments}
 use Rattle.csi_orchestrator.specs.Private.Keyed.{change_by, put_by}
 use Rattle.csi_orchestrator.specs.Model.Shown.{NodeEntryShown, RowShown, node_entry_of}
+
+-- it becomes what is wanted, or stays as it was where that is refused
+pub record Becomes {A R E : Type 0} (wanted old new : A) (result : Result R E) : Type 0 where
+  pub ok : OnOk result (new ≡ wanted)
+  pub err : OnErr result (new ≡ old)
 
 -- what a call of this kind does or undoes: that the volume is there, or that it is attached to a node, staged there, or published at a
 -- target there

@@ -1,7 +1,7 @@
 -- What an orchestrator answers to each input, and what it shows then, read from its rows alone: a step of one row
 -- (`RowSteps.antt`), a new row, or a restart. This profile's own. The law `RowsTell` of `Sound.antt` says that this is what
 -- the definitions over histories say.
-use Rattle.std.specs.Prelude.{◌≡◌, ℕ, List, find, Bool, false, ◌&&◌, Option, Some, None, if◌then◌else◌, Result, Ok, Err, IfOk, IfErr, OnErr}
+use Rattle.std.specs.Prelude.{◌≡◌, ℕ, List, find, Bool, false, ◌&&◌, Option, Some, None, if◌then◌else◌, Result, Ok, Err, IsOk, IfOk, IfErr, OnErr, map}
 use Rattle.csi_types.specs.declared.number.Number.{Number}
 use Rattle.csi_types.specs.declared.call.Kind.{Kind}
 use Rattle.csi_types.specs.declared.call.Party.{Party}
@@ -16,6 +16,7 @@ use Rattle.csi_orchestrator.specs.declared.fault.Heard.TheVariants.{Ignored}
 use Rattle.csi_orchestrator.specs.declared.fault.OrchFault.{OrchFault}
 use Rattle.csi_orchestrator.specs.declared.fault.OrchFault.TheVariants as faults
 use Rattle.csi_orchestrator.specs.declared.sending.Outgoing.{Outgoing}
+use Rattle.csi_orchestrator.specs.declared.state.OrchestratorCore.{OrchestratorCore}
 use Rattle.csi_orchestrator.specs.declared.step.Step.{Step}
 use Rattle.csi_orchestrator.specs.declared.step.Step.TheVariants.{Create, Use, Stop, Delete, TimeOut, Succeed, Fail}
 use Rattle.csi_orchestrator.specs.Model.Thing.{Issued}
@@ -27,6 +28,9 @@ use Rattle.csi_orchestrator.specs.Private.RowRefusals.{first_fault}
 use Rattle.csi_orchestrator.specs.Private.RowSteps.{MovedRow, row_sends_due, row_unless, row_step}
 use Rattle.csi_orchestrator.specs.Model.Shown.{RowShown, OrchestratorParts, row_of, open_in_row}
 use Rattle.csi_orchestrator.specs.Public.Beginning.{restart_refusal, restarted_parts, loss_refusal, parts_at_loss}
+use Rattle.csi_orchestrator.specs.Public.Catalog.{rows_of}
+use Rattle.csi_orchestrator.specs.Public.CoreParts.{orchestrator_parts_shown, IsFiled}
+use Rattle.csi_orchestrator.specs.Public.Shown.{row_shown}
 use Rattle.csi_orchestrator.specs.Public.RowMoves.{MovedRows, moved_rows, IsRefusal}
 
 -- the row in place of its name's, or last
@@ -127,3 +131,17 @@ pub record IsMoveOf {R : Type 0} (old new : OrchestratorParts) (input : Input) (
   pub ok : IfOk result (λ r. row_moves old input ≡ moved_rows new (says r))
   pub err : IfErr result (IsRefusal (row_moves old input))
   pub stays : OnErr result (new ≡ old)
+
+-- what is told by a step of the row of this name
+abbrev pub step_told : OrchestratorCore → (Option Frame → Answer) → Step → List ℕ → Result MovedRows OrchFault
+step_told core says step name = steps_at (orchestrator_parts_shown core) says step (row_of (map row_shown (rows_of core.catalog)) name)
+
+-- a call's result is what is told by this step of the row of a name, and a refusal changes nothing; where nothing is sent it isn't refused, and for
+-- a delete it takes no memory
+pub record TakesStep (old new : OrchestratorCore) (says : Option Frame → Answer) (step : Step) (name : List ℕ) (result : Result (Option Frame) OrchFault) : Type 0 where
+  pub ok : IfOk result (λ sent. step_told old says step name ≡ moved_rows (orchestrator_parts_shown new) (says sent))
+  pub err : IfErr result (IsRefusal (step_told old says step name))
+  pub stays : OnErr result (orchestrator_parts_shown new ≡ orchestrator_parts_shown old)
+  pub filed : IsFiled new
+  pub quiet : ((frame : Frame) → says (Some frame) ≡ says None → ⊥) → RowsAnswer (says None) (step_told old says step name) → IsOk result
+  pub delete : step ≡ Delete → IfErr result (λ fault. fault ≡ faults.NoMemory → ⊥)

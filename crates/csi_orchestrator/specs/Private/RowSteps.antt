@@ -1,6 +1,6 @@
 -- What is asked of a volume or comes for it, what it makes of the volume's row, and what is sent then. This profile's own.
 -- `RowMoves.antt` says what becomes of all the rows.
-use Rattle.std.specs.Prelude.{◌≡◌, ◌==◌, List, ℕ, Bool, true, false, ◌&&◌, Option, Some, None, is_none, if◌then◌else◌, Result, Ok, Err}
+use Rattle.std.specs.Prelude.{◌≡◌, ◌==◌, List, ℕ, Bool, true, false, ◌&&◌, Option, Some, None, is_none, if◌then◌else◌, Result, Ok, Err, IsOk, IfOk, IfErr, OnErr}
 use Rattle.csi_types.specs.declared.number.Number.{Number}
 use Rattle.csi_types.specs.Model.Call.{kind_of}
 use Rattle.csi_types.specs.Model.Replies.{call_frame}
@@ -18,6 +18,7 @@ use Rattle.csi_orchestrator.specs.Model.Moves.{is_forward_due}
 use Rattle.csi_orchestrator.specs.Private.RowChanges.{row_once_sent, succeeded_row, wanted_row, row_wanted_anew, dropped_row, stopped_goal, with_entry}
 use Rattle.csi_orchestrator.specs.Private.RowRefusals.{step_refusal, late_refusal}
 use Rattle.csi_orchestrator.specs.Model.Shown.{RowShown}
+use Rattle.csi_orchestrator.specs.Public.RowMoves.{IsRefusal}
 use Rattle.csi_orchestrator.specs.Public.Shown.{closed}
 use Rattle.csi_orchestrator.specs.Public.RowDue.{due_by, due_in}
 
@@ -122,3 +123,12 @@ row_step nodes last step row = row_unless (step_refusal nodes last step row) (ro
 abbrev pub SendsNothing : Result MovedRow OrchFault → Type 0
 SendsNothing (Ok moved_row) = moved_row.outgoing ≡ None
 SendsNothing (Err fault) = ⊥
+
+-- a call's result is what is told of the row, and a refusal changes nothing; where nothing is sent and no entry is needed, it isn't refused,
+-- and for a delete it takes no memory
+pub record MovesRow (moved : Result MovedRow OrchFault) (step : Step) (may_lack : Bool) (old new : RowShown) (result : Result (Option Outgoing) OrchFault) : Type 0 where
+  pub ok : IfOk result (λ next. moved ≡ Ok (record { outgoing = next; row = new }))
+  pub err : IfErr result (IsRefusal moved)
+  pub stays : OnErr result (new ≡ old)
+  pub quiet : may_lack ≡ false → SendsNothing moved → IsOk result
+  pub delete : step ≡ steps.Delete → IfErr result (λ fault. fault ≡ faults.NoMemory → ⊥)

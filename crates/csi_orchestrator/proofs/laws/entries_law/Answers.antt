@@ -5,4 +5,4 @@ use Rattle.csi_orchestrator.proofs.KeptInUse.{keeps-needed}
 use Rattle.csi_orchestrator.proofs.laws.entries_law.Goals as goal
 
 pub returns : goal.returns
-returns c = each-weaker IsSteadyRow KeepsWhatIsNeeded c.args.orchestrator.now.rows keeps-needed c.assert_kept.ensures.steady
+returns c = each-weaker IsSteadyRow KeepsWhatIsNeeded c.args.orchestrator.now.rows keeps-needed c.session-session.ensures.kept.steady

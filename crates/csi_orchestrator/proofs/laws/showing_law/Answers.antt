@@ -2,4 +2,4 @@
 use Rattle.csi_orchestrator.proofs.laws.showing_law.Goals as goal
 
 pub returns : goal.returns
-returns c = c.assert_kept.ensures.told
+returns c = c.session-session.ensures.kept.told

@@ -1,20 +1,11 @@
 -- By the rows.
 use Rattle.std.proofs.Common.{refl}
-use Rattle.csi_orchestrator.proofs.ChangedRows.{changed-promised}
-use Rattle.csi_orchestrator.proofs.PromisesTold.{ok-promised, err-promised, kept-promised, nodes-promised}
+use Rattle.csi_orchestrator.proofs.AskedPromises.{asked-promised}
+use Rattle.csi_orchestrator.proofs.PromisesTold.{kept-promised}
 use Rattle.csi_orchestrator.proofs.orchestrator.Orchestrator.create.Goals as goal
 
 pub invariant_of-self : goal.invariant_of-self
 invariant_of-self c = (kept-promised c.self.invariant.0 c.create.ensures.told tt, c.create.ensures.filed)
 
-pub returns-clause-ok : goal.returns-clause-ok
-returns-clause-ok c = ok-promised c.self.view_is c.self.invariant.0 c.create.ensures.told
-
-pub returns-clause-err : goal.returns-clause-err
-returns-clause-err c = err-promised c.self.view_is c.self.invariant.0 c.create.ensures.told
-
-pub returns-clause-nodes : goal.returns-clause-nodes
-returns-clause-nodes c = nodes-promised c.self.view_is c.self.invariant.0 c.create.ensures.told tt
-
-pub returns-clause-changed : goal.returns-clause-changed
-returns-clause-changed c = changed-promised c.args.name c.self.view_is refl c.create.ensures.told
+pub returns : goal.returns
+returns c = asked-promised c.args.name c.self.view_is c.self.invariant.0 refl tt c.create.ensures.told tt tt tt

@@ -1,20 +1,12 @@
 -- By the rows.
 use Rattle.std.proofs.Common.{refl}
-use Rattle.csi_orchestrator.proofs.ChangedRows.{changed-promised}
-use Rattle.csi_orchestrator.proofs.PromisesTold.{ok-promised, err-promised, kept-promised, nodes-promised}
+use Rattle.csi_orchestrator.proofs.AskedPromises.{asked-promised}
+use Rattle.csi_orchestrator.proofs.PromisesTold.{kept-promised}
+use Rattle.csi_orchestrator.proofs.RowsByName.{asked-move}
 use Rattle.csi_orchestrator.proofs.orchestrator.Orchestrator.timeout.Goals as goal
 
 pub invariant_of-self : goal.invariant_of-self
-invariant_of-self c = (kept-promised c.self.invariant.0 (c.ask.ensures.told _ refl) tt, c.ask.ensures.filed)
+invariant_of-self c = (kept-promised c.self.invariant.0 (asked-move _ refl c.ask.ensures) tt, c.ask.ensures.filed)
 
-pub returns-clause-ok : goal.returns-clause-ok
-returns-clause-ok c = ok-promised c.self.view_is c.self.invariant.0 (c.ask.ensures.told _ refl)
-
-pub returns-clause-err : goal.returns-clause-err
-returns-clause-err c = err-promised c.self.view_is c.self.invariant.0 (c.ask.ensures.told _ refl)
-
-pub returns-clause-nodes : goal.returns-clause-nodes
-returns-clause-nodes c = nodes-promised c.self.view_is c.self.invariant.0 (c.ask.ensures.told _ refl) tt
-
-pub returns-clause-changed : goal.returns-clause-changed
-returns-clause-changed c = changed-promised c.args.name.now c.self.view_is refl (c.ask.ensures.told _ refl)
+pub returns : goal.returns
+returns c = asked-promised c.args.name.now c.self.view_is c.self.invariant.0 refl tt (asked-move _ refl c.ask.ensures) tt tt tt
