@@ -3,3 +3,4 @@ pub mod Reading
 pub mod OrchestratorReading
 pub mod Stopping
 pub mod Worked
+pub mod Writes

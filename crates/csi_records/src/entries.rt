@@ -9,6 +9,7 @@ ghost use Rattle.csi_records.specs.Public.OrchestratorSpelling.{node_entry_bytes
 ghost use Rattle.csi_records.specs.Public.OrchestratorRows.{IsNodeEntry};
 ghost use Rattle.csi_records.specs.Private.Reading.{read_counted};
 ghost use Rattle.csi_records.specs.Private.OrchestratorReading.{read_node_entry};
+ghost use Rattle.csi_records.specs.Private.Writes.{Writes};
 
 use crate::fault::ValueStop;
 use crate::items::{Item, list, put_list};
@@ -96,8 +97,7 @@ pub(crate) fn node_entries(
 
 fn put_entry(out: &mut Vec<u8>, entry: &NodeEntry) -> Result<(), NoMemory>
     requires { AreTargetsFew entry.now }
-    ensures written { OnOk result (out.new.items ≡ out.old.items ++ node_entry_bytes (node_entry_shown entry.now)) }
-    ensures fits { OnOk result (IsNodeEntry present (node_entry_shown entry.now)) }
+    ensures { Writes out.old.items out.new.items (node_entry_bytes (node_entry_shown entry.now)) (IsNodeEntry present (node_entry_shown entry.now)) result }
 {
     append_text(out, &entry.node)?;
     entry.capability.put(out)?;
@@ -111,8 +111,7 @@ fn put_entry(out: &mut Vec<u8>, entry: &NodeEntry) -> Result<(), NoMemory>
 fn put_each(out: &mut Vec<u8>, entries: &[NodeEntry]) -> Result<(), NoMemory>
     requires count { length entries.now ≤ 64 }
     requires few { AllByRecursion AreTargetsFew entries.now }
-    ensures written { OnOk result (out.new.items ≡ out.old.items ++ list_spelling (λ entry. node_entry_bytes (node_entry_shown entry)) entries.now) }
-    ensures fits { OnOk result (AllByRecursion (λ entry. IsNodeEntry present (node_entry_shown entry)) entries.now) }
+    ensures { Writes out.old.items out.new.items (list_spelling (λ entry. node_entry_bytes (node_entry_shown entry)) entries.now) (AllByRecursion (λ entry. IsNodeEntry present (node_entry_shown entry)) entries.now) result }
 {
     append_byte(out, entries.len() as u8)?;
     for one in entries {
@@ -125,8 +124,7 @@ fn put_each(out: &mut Vec<u8>, entries: &[NodeEntry]) -> Result<(), NoMemory>
 pub(crate) fn put_entries(out: &mut Vec<u8>, entries: &[NodeEntry]) -> Result<(), NoMemory>
     requires count { length entries.now ≤ 64 }
     requires few { AllByRecursion AreTargetsFew entries.now }
-    ensures written { OnOk result (out.new.items ≡ out.old.items ++ list_spelling node_entry_bytes (map node_entry_shown entries.now)) }
-    ensures fits { OnOk result (AllByRecursion (IsNodeEntry present) (map node_entry_shown entries.now)) }
+    ensures { Writes out.old.items out.new.items (list_spelling node_entry_bytes (map node_entry_shown entries.now)) (AllByRecursion (IsNodeEntry present) (map node_entry_shown entries.now)) result }
 {
     put_each(out, entries)
 }

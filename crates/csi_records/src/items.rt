@@ -4,6 +4,7 @@ ghost use Rattle.std.specs.List.{AllByRecursion};
 ghost use Rattle.csi_records.specs.declared.version.RecordVersion.{RecordVersion};
 ghost use Rattle.csi_records.specs.Private.Reading.{Reader, read_counted};
 ghost use Rattle.csi_records.specs.Public.Spelling.{list_spelling, present};
+ghost use Rattle.csi_records.specs.Private.Writes.{Writes};
 
 use crate::fault::ValueStop;
 use crate::version::RecordVersion;
@@ -35,8 +36,7 @@ pub(crate) trait Item: Drop {
         ensures bad { IsErrOf result ValueStop.Bad → item_in version fields.old.bytes.now ≡ None };
 
     fn put(&self, out: &mut Vec<u8>) -> Result<(), NoMemory>
-        ensures written { OnOk result (out.new.items ≡ out.old.items ++ item_bytes self.now) }
-        ensures fits { OnOk result (is_item present self.now) };
+        ensures { Writes out.old.items out.new.items (item_bytes self.now) (is_item present self.now) result };
 }
 
 impl Item for Capability {
@@ -151,8 +151,7 @@ pub(crate) fn list<T: Item>(
 /// The count of the items, at most 255, and each of them.
 pub(crate) fn put_list<T: Item>(out: &mut Vec<u8>, from: &[T]) -> Result<(), NoMemory>
     requires { length from.now ≤ 255 }
-    ensures written { OnOk result (out.new.items ≡ out.old.items ++ list_spelling T.item_bytes from.now) }
-    ensures fits { OnOk result (AllByRecursion (T.is_item present) from.now) }
+    ensures { Writes out.old.items out.new.items (list_spelling T.item_bytes from.now) (AllByRecursion (T.is_item present) from.now) result }
 {
     append_byte(out, from.len() as u8)?;
     for one in from {

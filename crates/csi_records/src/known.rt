@@ -6,6 +6,7 @@ ghost use Rattle.csi_frames.specs.Public.Spelling.{text};
 ghost use Rattle.csi_records.specs.Public.Spelling.{present};
 ghost use Rattle.csi_records.specs.Public.OrchestratorSpelling.{known_bytes, arguments_bytes, id_bytes, usage_bytes, goal_bytes};
 ghost use Rattle.csi_records.specs.Public.OrchestratorRows.{AreArguments, IsUsage, IsGoal};
+ghost use Rattle.csi_records.specs.Private.Writes.{Writes};
 
 use crate::items::{Item, put_list};
 use csi_frames::{append_byte, append_flag, append_text, append_word};
@@ -27,8 +28,7 @@ pub(crate) fn put_known(out: &mut Vec<u8>, known: Known) -> Result<(), NoMemory>
 
 /// An id, if there is one.
 pub(crate) fn put_id(out: &mut Vec<u8>, id: Option<VolumeId>) -> Result<(), NoMemory>
-    ensures written { OnOk result (out.new.items ≡ out.old.items ++ id_bytes id) }
-    ensures fits { OnOk result (IfSome id IsVolumeId) }
+    ensures { Writes out.old.items out.new.items (id_bytes id) (IfSome id IsVolumeId) result }
 {
     match id {
         None => append_byte(out, 0),
@@ -41,8 +41,7 @@ pub(crate) fn put_id(out: &mut Vec<u8>, id: Option<VolumeId>) -> Result<(), NoMe
 
 /// What a volume was to be created with.
 pub(crate) fn put_arguments(out: &mut Vec<u8>, arguments: &Arguments) -> Result<(), NoMemory>
-    ensures written { OnOk result (out.new.items ≡ out.old.items ++ arguments_bytes arguments.now) }
-    ensures fits { OnOk result (AreArguments present arguments.now) }
+    ensures { Writes out.old.items out.new.items (arguments_bytes arguments.now) (AreArguments present arguments.now) result }
 {
     append_word(out, arguments.required)?;
     append_word(out, arguments.limit)?;
@@ -51,8 +50,7 @@ pub(crate) fn put_arguments(out: &mut Vec<u8>, arguments: &Arguments) -> Result<
 
 // Where and how a volume is to be used.
 fn put_usage(out: &mut Vec<u8>, usage: &Usage) -> Result<(), NoMemory>
-    ensures written { OnOk result (out.new.items ≡ out.old.items ++ usage_bytes usage.now) }
-    ensures fits { OnOk result (IsUsage present usage.now) }
+    ensures { Writes out.old.items out.new.items (usage_bytes usage.now) (IsUsage present usage.now) result }
 {
     append_text(out, &usage.node)?;
     append_text(out, &usage.target)?;
@@ -62,8 +60,7 @@ fn put_usage(out: &mut Vec<u8>, usage: &Usage) -> Result<(), NoMemory>
 
 // Where a volume is to be used no longer.
 fn put_place(out: &mut Vec<u8>, node: &NodeId, target: &Target) -> Result<(), NoMemory>
-    ensures written { OnOk result (out.new.items ≡ out.old.items ++ (text node.now ++ text target.now)) }
-    ensures fits { OnOk result (IsNodeId node.now × IsTarget target.now) }
+    ensures { Writes out.old.items out.new.items (text node.now ++ text target.now) (IsNodeId node.now × IsTarget target.now) result }
 {
     append_text(out, node)?;
     append_text(out, target)
@@ -71,8 +68,7 @@ fn put_place(out: &mut Vec<u8>, node: &NodeId, target: &Target) -> Result<(), No
 
 /// A goal, if there is one.
 pub(crate) fn put_goal(out: &mut Vec<u8>, goal: &Option<Goal>) -> Result<(), NoMemory>
-    ensures written { OnOk result (out.new.items ≡ out.old.items ++ goal_bytes goal.now) }
-    ensures fits { OnOk result (IsGoal present goal.now) }
+    ensures { Writes out.old.items out.new.items (goal_bytes goal.now) (IsGoal present goal.now) result }
 {
     match goal {
         None => append_byte(out, 0),

@@ -5,6 +5,7 @@ ghost use Rattle.csi_node.specs.Model.OneRow.{node_row_shown};
 ghost use Rattle.csi_records.specs.Public.Spelling.{present, volume_row, staged_bytes, volume_bytes, answered_bytes, controller_head, node_head};
 ghost use Rattle.csi_records.specs.Public.Writing.{AreHeldFew, ArePublishedFew};
 ghost use Rattle.csi_records.specs.Public.Records.{IsVolumeRow, IsStagedSo, IsAnsweredRow};
+ghost use Rattle.csi_records.specs.Private.Writes.{Writes};
 
 use crate::items::{Item, put_list};
 use crate::version::PRESENT;
@@ -16,8 +17,7 @@ use csi_types::{Capability, NoMemory, NodeId};
 use std::alloc::Global;
 
 fn put_staged(out: &mut Vec<u8>, from: &Option<Capability>) -> Result<(), NoMemory>
-    ensures written { OnOk result (out.new.items ≡ out.old.items ++ staged_bytes from.now) }
-    ensures fits { OnOk result (IsStagedSo present from.now) }
+    ensures { Writes out.old.items out.new.items (staged_bytes from.now) (IsStagedSo present from.now) result }
 {
     match from {
         None => append_byte(out, 0),

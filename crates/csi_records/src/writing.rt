@@ -5,6 +5,7 @@ ghost use Rattle.csi_stores.specs.Public.Part.{IsPart, stored_in, all_stored_in}
 ghost use Rattle.csi_records.specs.Public.Spelling.{present, kept_bytes, part_bytes, record_bytes};
 ghost use Rattle.csi_records.specs.Public.Records.{IsKeptCall};
 ghost use Rattle.csi_records.specs.Public.Writing.{CanBeWritten};
+ghost use Rattle.csi_records.specs.Private.Writes.{Writes};
 
 use crate::part_value::value_of;
 use crate::version::PRESENT;
@@ -38,8 +39,7 @@ pub(crate) fn put_kept(
     kind: Kind,
     reply: &Reply,
 ) -> Result<(), NoMemory>
-    ensures written { OnOk result (out.new.items ≡ out.old.items ++ kept_bytes (record { number = last; kind = kind; reply = reply.now })) }
-    ensures fits { OnOk result (IsKeptCall (record { number = last; kind = kind; reply = reply.now })) }
+    ensures { Writes out.old.items out.new.items (kept_bytes (record { number = last; kind = kind; reply = reply.now })) (IsKeptCall (record { number = last; kind = kind; reply = reply.now })) result }
 {
     append_word(out, last.session)?;
     append_word(out, last.call)?;
