@@ -1,5 +1,5 @@
 //! The bytes of a stream that no line took yet.
-ghost use Rattle.std.specs.Prelude.{◌≡◌, ◌≤◌, ◌++◌, [], length, take, drop, OnOk, OnErr};
+ghost use Rattle.std.specs.Prelude.{◌≡◌, ◌≢◌, ◌<◌, ◌≤◌, ◌++◌, ℕ, [], length, take, drop, slice_index, OnOk, OnErr};
 ghost use Rattle.csi_streams.specs.Private.Lining.{IsFront};
 
 use csi_types::NoMemory;
@@ -42,6 +42,22 @@ impl Model for LineBuffer {
     ghost invariant = { λ buffer. IsLookedThrough buffer.bytes.items (vec_len buffer.bytes) buffer.start buffer.looked };
 }
 
+// The place of the first newline from this place on, or else the end.
+fn newline_from(bytes: &[u8], from: usize) -> usize
+    requires { from ≤ length bytes.now }
+    ensures behind { from ≤ result }
+    ensures within { result ≤ length bytes.now }
+    ensures none { (k : ℕ) → from ≤ k → k < result → slice_index bytes.now k ≢ 10 }
+    ensures there { result < length bytes.now → slice_index bytes.now result ≡ 10 }
+{
+    for at in from..bytes.len() {
+        if bytes[at] == NEWLINE {
+            return at;
+        }
+    }
+    bytes.len()
+}
+
 impl LineBuffer {
     /// Nothing is kept. It takes no memory.
     pub(crate) fn new(alloc: Global) -> LineBuffer
@@ -82,17 +98,11 @@ impl LineBuffer {
         ensures same { self.new ≡ self.old }
         ensures front { IsFront self.old result }
     {
-        let start = self.start;
-        let bytes = self.bytes.as_slice();
-        let mut at = self.looked;
-        while at < bytes.len() && bytes[at] != NEWLINE {
-            at += 1;
-        }
-        self.looked = at;
-        let len = at - start;
+        self.looked = newline_from(self.bytes.as_slice(), self.looked);
+        let len = self.looked - self.start;
         if len > LINE_ROOM {
             Front::Long
-        } else if at < bytes.len() {
+        } else if self.looked < self.bytes.len() {
             Front::Line(len)
         } else {
             Front::Part
