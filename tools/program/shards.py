@@ -2,6 +2,7 @@
 them."""
 import json
 import os
+import time
 
 from auditing.clauses import found as violations
 from auditing.lines import system_of
@@ -144,7 +145,12 @@ class Shard:
     # ---- what has to hold
 
     def record(self, name):
-        ran = self.box.run("record", self.stores()[name])
+        """What a part's store has. It is asked for again where something is committed just then, as by a process that has only been started."""
+        for _ in range(40):
+            ran = self.box.run("record", self.stores()[name])
+            if (ran.status, ran.error) != (3, b"csi-replay: store not opened\n"):
+                break
+            time.sleep(0.05)
         wanted(f"record of {name}", (ran.status, ran.error), (0, b""))
         return json.loads(ran.out)
 
