@@ -1,4 +1,4 @@
-//! Fields written as bytes: texts, numbers, flags, ids, capabilities and replies. Frames and records are written by these alone.
+//! Fields written as bytes: texts, numbers, flags, ids, capabilities and replies. Of frames and of records.
 ghost use Rattle.std.specs.Prelude.{◌≡◌, ◌≤◌, ◌++◌, [], ◌∷◌, length};
 ghost use Rattle.std.specs.List.{flat_map, AllByRecursion};
 ghost use Rattle.csi_types.specs.Public.Limits.{IsCapability, IsReply};

@@ -1,4 +1,4 @@
-//! Configurations and schedules, read from JSON exactly as the format has them. This profile's own.
+//! Configurations, schedules and an orchestrator's requests, read from JSON exactly as the format has them. This profile's own.
 #![tactic(auto)]
 
 mod access;

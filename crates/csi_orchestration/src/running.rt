@@ -66,11 +66,12 @@ fn served<K: Keep, R: Read, W: Write>(
 /// Opens the orchestrator of these nodes from its store, writes its first line, and serves the reader's lines, each answer written after
 /// its commit, until the input ends or something is refused; the answer is how that is told. Its session, which is the one after the
 /// record's, or `least`, where that is later, is committed before the first line. Where it isn't opened nothing is read nor written:
-/// `ConfigRefused` where no orchestrator has these nodes or the record is of others, `NumbersSpent` where the record's session is the
-/// last one, `RecordFault` with the first part that is none of an orchestrator's
+/// `ConfigRefused` for more than 64 nodes or one that is there twice, `NodeInUse` where these leave out one at which a volume may be
+/// attached, `NumbersSpent` where the record's session is the last one, `RecordFault` with the first part that is none of an orchestrator's
 /// record, `Device` where the device failed or the store is full, and `Memory`. Where the first line isn't written nothing is
 /// read: `Device` where the writer failed, and `Memory`. Else `Done`, or `LineFault` with the number of a line that is too long, `Endless`,
-/// `Memory`, or `Device` where the reader, the writer or the store failed. What was committed and written before a fault stays; an answer that
+/// `OlderStore` where a reply says that the store is an older copy, `Memory`, or `Device` where the reader, the writer or the store failed.
+/// What was committed and written before a fault stays; an answer that
 /// isn't written may have been committed. A store that has no list of parts ends it by `RecordFault`, with the place of the first
 /// thing that is none, unless the device fails before or memory is wanted; and a store that is honest afterwards was before. This
 /// profile's own.

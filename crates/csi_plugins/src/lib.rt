@@ -1,4 +1,5 @@
-//! The plugins as programs: a plugin is opened from its store, and serves a reader's frames to a writer. This profile's own.
+//! The plugins as programs: a plugin is opened from its store, and serves a reader's frames to a writer; a store's record is told, and a
+//! lost store made anew of the others. This profile's own.
 #![tactic(auto)]
 
 mod ending;
