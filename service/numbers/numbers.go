@@ -60,13 +60,13 @@ type Metadata struct {
 
 // Admit refuses a call without one number.
 func (Metadata) Admit(ctx context.Context) error {
-	_, err := fromContext(ctx)
+	_, err := From(ctx)
 	return err
 }
 
 // Number is the call's own. It is refused where its session is too far above the latest: that session would make every other one stale for good.
 func (source Metadata) Number(ctx context.Context, of Of) (frames.Number, error) {
-	number, err := fromContext(ctx)
+	number, err := From(ctx)
 	if err != nil {
 		return frames.Number{}, err
 	}
@@ -87,7 +87,8 @@ func (source Metadata) Begins(session, latest uint64, now time.Time) error {
 	return nil
 }
 
-func fromContext(ctx context.Context) (frames.Number, error) {
+// From is the number that a call came with.
+func From(ctx context.Context) (frames.Number, error) {
 	headers, _ := metadata.FromIncomingContext(ctx)
 	values := headers.Get(Key)
 	if len(values) != 1 {

@@ -117,6 +117,64 @@ func wants(t *testing.T, core *serving.Core, session, call uint64, request servi
 	return answer
 }
 
+// By arrival what undoes is done by a number that no later process gives: its session is in the record before.
+func TestUndoneByArrival(t *testing.T) {
+	ctx, config := context.Background(), configOf(controller, newMemory(), false)
+	config.Numbering = func(latest uint64) (numbers.Source, error) { return numbers.NewArrival(latest) }
+	begin := func() *serving.Core {
+		core, err := serving.Open(ctx, config)
+		if err != nil {
+			t.Fatal(err)
+		}
+		return core
+	}
+	core := begin()
+	if _, err := core.Carry(ctx, create("v")); err != nil {
+		t.Fatal(err)
+	}
+	core.Close()
+	var told []frames.Number
+	remove := serving.Request{Body: frames.DeleteVolume{ID: 1}}
+	remove.Act = func(_ context.Context, known serving.Known) (any, error) {
+		told = append(told, known.Number)
+		return nil, errors.New("no")
+	}
+	for turn := 0; turn < 2; turn++ {
+		core := begin()
+		if _, err := core.Carry(ctx, remove); status.Code(err) != codes.Unavailable {
+			t.Errorf("it is undone: %v", err)
+		}
+		core.Close()
+	}
+	if len(told) != 2 || told[1].Session <= told[0].Session {
+		t.Errorf("the numbers are %v", told)
+	}
+}
+
+// firsts is a store that notes which sides were to be first.
+type firsts struct {
+	*memory
+	first map[string]bool
+}
+
+func (kept *firsts) CommitWith(ctx context.Context, sides []store.Side, changes []store.Change) error {
+	for _, side := range sides {
+		kept.first[side.Name] = side.First
+	}
+	return kept.memory.CommitWith(ctx, sides, changes)
+}
+
+// What is known of a session that begins is kept before the record has it.
+func TestBegunComesFirst(t *testing.T) {
+	for _, maker := range []plugin.Maker{controller, node} {
+		kept := &firsts{newMemory(), map[string]bool{}}
+		core := opened(t, maker, kept)
+		if _, err := core.Begin(context.Background(), numbers.Opening{Session: 7, Token: "a"}); err != nil || !kept.first["begun"] {
+			t.Errorf("%v, %v", kept.first, err)
+		}
+	}
+}
+
 func create(name string) serving.Request {
 	return serving.Request{Body: frames.CreateVolume{Name: name, Required: 10, Capabilities: []frames.Capability{block}}}
 }

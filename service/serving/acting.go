@@ -187,6 +187,9 @@ func (core *Core) undo(ctx context.Context, request Request) (Answer, error) {
 		if acts {
 			asked, err = core.letGo(ctx, request)
 		}
+		if err == errMemory { // by which nothing would be changed
+			err = errKept
+		}
 		if err != nil {
 			return Answer{}, err
 		}
@@ -222,6 +225,10 @@ func (core *Core) tryUndo(ctx context.Context, request Request) (asked asked, kn
 		known = core.knownOf(plan)
 		if acts, err = core.allows(plan, known); err == nil && !acts {
 			asked, err = core.askAll(group, plan)
+		}
+		if acts && !core.isByMetadata() && known.Number.Session > core.latest() {
+			// Its deed is told the number: that has to be of a session that the record has, else the next process gives it to another call.
+			return true, core.raise(group, known.Number.Session)
 		}
 		group.atOnce = acts
 		return true, err

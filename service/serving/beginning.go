@@ -66,13 +66,17 @@ func (core *Core) begin(group *group, opening numbers.Opening) (frames.Number, e
 	if sent.IsBefore(opening.Sent) && !opening.IsUnknown {
 		sent = opening.Sent
 	}
-	core.begun = begun{Session: opening.Session, Token: opening.Token, Sent: numbers.Text(sent), List: opening.List}
-	value, err := json.Marshal(core.begun)
+	next := begun{Session: opening.Session, Token: opening.Token, Sent: numbers.Text(sent), List: opening.List}
+	value, err := json.Marshal(next)
 	if err != nil {
 		return heard, core.end(err)
 	}
-	group.addSide(store.Side{Name: begunName, Value: value})
-	return heard, core.raise(group, opening.Session)
+	if err := core.raise(group, opening.Session); err != nil {
+		return heard, err
+	}
+	core.begun = next
+	group.addSide(store.Side{Name: begunName, Value: value, First: true}) // else a record with the session could lack what was known of the one before
+	return heard, nil
 }
 
 // Confirm fails with ErrEarlier where the plugin hasn't heard of a call that it acknowledged, or of its session: its store is an older copy.
@@ -158,6 +162,7 @@ func (core *Core) raise(group *group, session uint64) error {
 	}
 	group.add(changes)
 	core.apply(changes)
+	core.takeOut(group, changes)
 	if volume := request.Body.Volume(); touches(changes, volume) {
 		core.isLast(group, volume, number, request, true)
 	}

@@ -152,6 +152,9 @@ func (core *Core) askAll(group *group, plan plan) (asked, error) {
 			break
 		}
 	}
+	if last := len(plan.steps) - 1; last >= 0 && core.isByMetadata() {
+		result.answer.Reply.Number = plan.steps[last].number // the call's, also where one before the last was refused
+	}
 	return result, nil
 }
 
@@ -226,13 +229,14 @@ func (core *Core) limitLong() {
 	}
 }
 
-// takeOut takes the texts of those volumes out whose rows went.
+// takeOut takes the texts of those volumes out whose rows went, once the changes are known. A row that its own call had forgotten, by beginning a session, and
+// then made anew, keeps them.
 func (core *Core) takeOut(group *group, changes []store.Change) {
 	if core.texts == nil {
 		return
 	}
 	for _, change := range changes {
-		if change.Out {
+		if change.Out && core.parts[change.Key] == nil {
 			core.keep(group, core.texts.Taken(change.Key))
 		}
 	}

@@ -132,7 +132,7 @@ func TestSteps(t *testing.T) {
 	if err != nil || answer.Reply.Kind != frames.NodeUnstageVolumeKind || answer.Reply.Number.Call != 2 || kept.count()-before != 1 || deed.times() != 1 {
 		t.Errorf("%+v, %v, %d commits", answer, err, kept.count()-before)
 	}
-	if answer, err = core.Carry(numbered(1, 2), both); err != nil || codes.Code(answer.Reply.Status) != codes.Aborted || answer.Reply.Number.Call != 1 {
+	if answer, err = core.Carry(numbered(1, 2), both); err != nil || codes.Code(answer.Reply.Status) != codes.Aborted || answer.Reply.Number.Call != 2 {
 		t.Errorf("again: %+v, %v", answer, err)
 	}
 	if _, err = core.Carry(numbered(2, 0), both); status.Code(err) != codes.FailedPrecondition {

@@ -287,9 +287,13 @@ func (core *Core) apply(changes []store.Change) {
 	for _, change := range changes {
 		if change.Out {
 			delete(core.parts, change.Key)
-			delete(core.last, change.Key)
 		} else {
 			core.parts[change.Key] = change.Value
+		}
+	}
+	for _, change := range changes {
+		if change.Out && core.parts[change.Key] == nil { // else its own call made it anew, which is its last one
+			delete(core.last, change.Key)
 		}
 	}
 }

@@ -107,6 +107,7 @@ var (
 	// errEnded is what a call gets whose commit failed, or that came after that: it got no reply of the plugin.
 	errEnded  = status.Error(codes.Unavailable, "serving ended")
 	errMemory = status.Error(codes.ResourceExhausted, "memory")
+	errKept   = status.Error(codes.Unavailable, "memory: it is undone, and the record has it still")
 	errCalls  = status.Error(codes.ResourceExhausted, "calls")
 	// errTooLate is what becomes of a deed that wasn't begun before the core's end.
 	errTooLate = status.Error(codes.Unavailable, "the driver ends: it wasn't begun")

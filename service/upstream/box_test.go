@@ -53,7 +53,8 @@ type box struct {
 	client   *grpc.ClientConn
 	end      func() // the driver
 	sockets  map[*exec.Cmd]string
-	count    int // of calls, each of which has a field of its own
+	count    int                         // of calls, each of which has a field of its own
+	watch    grpc.UnaryServerInterceptor // of the eight; nil for nobody
 }
 
 func newBox(t testing.TB, options upstream.Options) *box {
@@ -70,6 +71,9 @@ func (box *box) driver() (life.Driver, error) {
 	proxy, err := upstream.New(box.options)
 	if err != nil {
 		return life.Driver{}, err
+	}
+	if box.watch != nil {
+		proxy.Watch(box.watch)
 	}
 	socket := box.socket
 	if socket == "" {

@@ -110,7 +110,7 @@ func (proxy *Proxy) attach(call *call) (serving.Request, error) {
 		volume, there := view.Table().ID(id)
 		if there && proxy.options.Adopt {
 			row, err := records.ReadVolume(view.Row(volume))
-			there = err == nil && row.Live
+			there = err == nil && (row.Live || call.isNumbered) // of one that was deleted the plugin says whether the call is stale
 		}
 		switch {
 		case there:

@@ -80,7 +80,8 @@ func TestOddPaths(t *testing.T) {
 	box, ctx := newBox(t, upstream.Options{}).start(), soon(t)
 	id := box.made(ctx, "v")
 	box.does(ctx, attachCall, attaches(id, "n1", writer))
-	for _, method := range []string{attachCall[1:], attachCall + "?", attachCall + "#", "/csi.v1.Controller/Controller%50ublishVolume", "csi.v0.Controller/CreateVolume"} {
+	for _, method := range []string{attachCall[1:], attachCall + "?", attachCall + "#", "/csi.v1.Controller/Controller%50ublishVolume", "csi.v0.Controller/CreateVolume",
+		"/" + attachCall, "/x/.." + attachCall, "/." + attachCall, attachCall + "/"} {
 		box.refuses(ctx, codes.Unimplemented, "no path of a call, /SERVICE/METHOD: one of the eight would pass by the plugin", method, attaches(id, "n2", writer))
 	}
 	box.attached(id, "n1")

@@ -27,6 +27,13 @@ type call struct {
 	ctx        context.Context
 	isNumbered bool          // it came with a number
 	asked      proto.Message // what is known of it, once it is read
+	did        func()        // is told, in its turn, that the upstream did it; nil for nobody
+}
+
+// isOf says whether a call came with this number.
+func (call *call) isOf(number frames.Number) bool {
+	its, err := numbers.From(call.ctx)
+	return err == nil && its == number
 }
 
 // undoes gives the volume of a controller's call that undoes something: nobody's, where the ledger doesn't have it. By arrival the plugin isn't asked then.
@@ -68,20 +75,20 @@ func (server *server) guard(method string, stream grpc.ServerStream) error {
 	if read == nil {
 		return status.Error(codes.Unimplemented, "the other plugin's: a driver of its own stands before that")
 	}
-	core, err := server.core()
-	if err != nil {
-		return err
-	}
-	if err := core.Admit(stream.Context()); err != nil {
-		return err
-	}
 	return server.unary(stream, func(ctx context.Context, raw []byte) (passing.Response, error) {
 		came := &call{raw: raw, ctx: ctx, isNumbered: numbers.IsIn(ctx)}
-		request, err := read(proxy, came)
+		request, fault := read(proxy, came)
 		response := passing.Response{}
-		err = proxy.watched(ctx, method, came.asked, func(ctx context.Context) error {
+		err := proxy.watched(ctx, method, came.asked, func(ctx context.Context) error {
+			core, err := server.core()
 			if err == nil {
-				response, err = proxy.carry(ctx, core, method, raw, request)
+				err = core.Admit(ctx)
+			}
+			if err == nil {
+				err = fault
+			}
+			if err == nil {
+				response, err = proxy.carry(ctx, core, came, method, request)
 			}
 			return err
 		})
@@ -117,11 +124,15 @@ func (server *server) core() (*serving.Core, error) {
 }
 
 // carry carries a call to the plugin, and if that allows it to the upstream, whose response it gives.
-func (proxy *Proxy) carry(ctx context.Context, core *serving.Core, method string, raw []byte, request serving.Request) (passing.Response, error) {
-	digest := sha256.Sum256(append([]byte(method), raw...))
+func (proxy *Proxy) carry(ctx context.Context, core *serving.Core, came *call, method string, request serving.Request) (passing.Response, error) {
+	digest := sha256.Sum256(append([]byte(method), came.raw...))
 	request.Like = string(digest[:])
 	request.Act = func(acting context.Context, _ serving.Known) (any, error) {
-		return proxy.call(acting, passing.Onward(passing.Waiting(acting, ctx), ctx), method, raw)
+		gave, err := proxy.call(acting, passing.Onward(passing.Waiting(acting, ctx), ctx), method, came.raw)
+		if err == nil && came.did != nil {
+			came.did()
+		}
+		return gave, err
 	}
 	request.Failed = func(err error) error { return err }
 	answer, err := core.Carry(ctx, request)

@@ -54,6 +54,19 @@ func TestIds(t *testing.T) {
 	box.wants(err, codes.Internal, `the upstream: it gave "d" an id of 0 bytes`)
 }
 
+// With numbers a late attachment of a volume that was deleted doesn't have it taken up anew.
+func TestAdoptLate(t *testing.T) {
+	box, ctx := newBox(t, upstream.Options{Adopt: true}), soon(t)
+	box.metadata = true
+	box.start()
+	id := box.made(numbered(ctx, "1.2"), "v")
+	box.does(numbered(ctx, "1.6"), detachCall, detaches(id, "n1"))
+	box.does(numbered(ctx, "1.8"), deleteCall, deletes(id))
+	box.refuses(numbered(ctx, "1.4"), codes.Aborted, "stale", attachCall, attaches(id, "n1", writer))
+	box.refuses(numbered(ctx, "1.10"), codes.NotFound, "volume", attachCall, attaches(id, "n1", writer))
+	box.attached(id)
+}
+
 // Volumes that were there before are taken up by their first attachment, where that is asked for; what undoes something of them passes in any case.
 func TestAdopt(t *testing.T) {
 	ctx := soon(t)

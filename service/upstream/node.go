@@ -2,6 +2,8 @@ package upstream
 
 import (
 	"context"
+	"strings"
+	"sync"
 
 	"github.com/golang/protobuf/proto"
 	"google.golang.org/grpc/codes"
@@ -40,7 +42,8 @@ func (proxy *Proxy) volume(view serving.View, id string) (volume uint64, texts [
 	if volume, there = table.ID(id); there {
 		return volume, nil, true
 	}
-	volume = table.Most() + 1
+	for volume = table.Most() + 1; view.Row(volume) != nil; volume++ { // not one that lost its id, as an earlier driver could leave it
+	}
 	return volume, []store.Text{identities.Put(volume, id)}, false
 }
 
@@ -103,20 +106,58 @@ func (proxy *Proxy) publish(call *call) (serving.Request, error) {
 		volume, texts, _ := proxy.volume(view, id)
 		body.ID = volume
 		bound := serving.Bound{Texts: append(texts, fit.kept...)}
-		if row, err := records.ReadStaged(view.Row(volume)); path == "" && err == nil && !row.IsStaged {
+		row, err := records.ReadStaged(view.Row(volume))
+		if path == "" && err == nil && !row.IsStaged && strings.HasPrefix(body.Target, "/") { // else the plugin refuses it, and nothing is to be staged
 			bound.Bodies = append(bound.Bodies, frames.NodeStageVolume{ID: volume, Capability: body.Capability})
 		}
 		bound.Bodies = append(bound.Bodies, body)
 		return bound, nil
 	}
+	its := publication{id, body.Target}
+	call.did = func() { proxy.unsure.take(its) }
 	request.Back = func(known serving.Known, why error) (serving.Request, bool) {
 		row, err := records.ReadStaged(known.Row)
-		if err != nil || row.IsAt(body.Target) || call.isNumbered || !isFinal(why) {
+		if err != nil || call.isNumbered || row.IsAt(body.Target) && !proxy.unsure.has(its) {
+			return serving.Request{}, false
+		}
+		proxy.unsure.put(its)
+		if !isFinal(why) {
 			return serving.Request{}, false
 		}
 		return proxy.unpublishing(call.ctx, id, asked.GetTargetPath())
 	}
 	return request, fit.err
+}
+
+// A publication is one of the upstream's volumes at a target.
+type publication struct{ id, target string }
+
+// unsure are the publications that are in the ledger since the upstream failed to say whether they came about, and that it never said were there. Where a
+// later call of one is refused for good, a platform takes it for one that isn't there. They are known as long as the process runs.
+type unsure struct {
+	mutex sync.Mutex
+	all   map[publication]bool
+}
+
+func (unsure *unsure) has(its publication) bool {
+	unsure.mutex.Lock()
+	defer unsure.mutex.Unlock()
+	return unsure.all[its]
+}
+
+func (unsure *unsure) put(its publication) {
+	unsure.mutex.Lock()
+	defer unsure.mutex.Unlock()
+	if unsure.all == nil {
+		unsure.all = map[publication]bool{}
+	}
+	unsure.all[its] = true
+}
+
+func (unsure *unsure) take(its publication) {
+	unsure.mutex.Lock()
+	defer unsure.mutex.Unlock()
+	delete(unsure.all, its)
 }
 
 // isFinal says whether a platform takes an error for the word that nothing was done, so that it undoes nothing: as kubelet does, any but these. By
@@ -135,9 +176,14 @@ func (proxy *Proxy) unpublishing(came context.Context, id, target string) (servi
 	if err != nil {
 		return serving.Request{}, false
 	}
-	request, err := proxy.unpublish(&call{raw: raw, ctx: came})
+	its := &call{raw: raw, ctx: came}
+	request, err := proxy.unpublish(its)
 	request.Act = func(acting context.Context, _ serving.Known) (any, error) {
-		return proxy.call(acting, passing.Onward(acting, came), "/csi.v1.Node/NodeUnpublishVolume", raw)
+		gave, err := proxy.call(acting, passing.Onward(acting, came), "/csi.v1.Node/NodeUnpublishVolume", raw)
+		if err == nil {
+			its.did()
+		}
+		return gave, err
 	}
 	return request, err == nil
 }
@@ -147,12 +193,16 @@ func (proxy *Proxy) unpublish(call *call) (serving.Request, error) {
 	fit, asked := fitting{}, wire.NodeUnpublishVolumeRequest{}
 	fit.read(call, &asked)
 	id, target := fit.id(asked.GetVolumeId()), fit.text("target_path", asked.GetTargetPath(), frames.MaxTarget)
+	call.did = func() { proxy.unsure.take(publication{id, target}) }
 	request := proxy.atNode(frames.NodeUnpublishVolumeKind, id, "")
 	request.Always = true
 	request.Bind = func(view serving.View) (serving.Bound, error) {
 		volume, texts, there := proxy.volume(view, id)
 		if !there && !call.isNumbered {
 			return serving.Bound{}, nil
+		}
+		if by, is := records.UnstagedBy(view.Row(volume)); is && call.isNumbered && call.isOf(by) {
+			return serving.Bound{Bodies: []frames.Body{frames.NodeUnstageVolume{ID: volume}}, Texts: texts}, nil // a duplicate of the last unpublication
 		}
 		bound := serving.Bound{Bodies: []frames.Body{frames.NodeUnpublishVolume{ID: volume, Target: target}}, Texts: texts}
 		row, err := records.ReadStaged(view.Row(volume))

@@ -7,6 +7,7 @@ import (
 	"testing"
 
 	"github.com/golang/protobuf/proto"
+	"google.golang.org/grpc"
 	"google.golang.org/grpc/codes"
 	"google.golang.org/grpc/status"
 
@@ -140,6 +141,123 @@ func TestRefusedPublication(t *testing.T) {
 			refused(codes.Internal, publishes("w", "", "/d", writers))
 			box.does(next(), publishCall, publishes("w", "", "/d", single))
 		}
+	}
+}
+
+// By arrival a publication whose first call had no answer is undone too, where a later one is refused for good; but not once the upstream said that it is there.
+func TestUnsurePublication(t *testing.T) {
+	box, ctx := newBox(t, upstream.Options{Node: "n1"}).start(), soon(t)
+	fails := func(codes ...codes.Code) {
+		t.Helper()
+		for _, code := range codes {
+			code := code
+			box.behind.Set(func(string) upstreamtest.Fault { return upstreamtest.Fault{Fail: status.Error(code, "no")} })
+			_, err := box.ask(ctx, publishCall, publishes("v", "/s", "/a", writers))
+			box.wants(err, code, "no")
+		}
+		box.behind.Set(nil)
+	}
+	undone := func(want int) {
+		t.Helper()
+		if told := len(box.behind.Told(unpublishCall)); told != want {
+			t.Errorf("the upstream was told %d times to undo, not %d", told, want)
+		}
+	}
+	box.does(ctx, stageCall, stages("v", "/s", writers))
+	fails(codes.DeadlineExceeded, codes.Unavailable)
+	undone(0)
+	box.refuses(ctx, codes.FailedPrecondition, "/a", unstageCall, unstages("v", "/s"))
+	box.behind.Set(func(method string) upstreamtest.Fault {
+		if method == publishCall {
+			return upstreamtest.Fault{Fail: status.Error(codes.Internal, "no")}
+		}
+		return upstreamtest.Fault{}
+	})
+	_, err := box.ask(ctx, publishCall, publishes("v", "/s", "/a", writers))
+	box.wants(err, codes.Internal, "no")
+	box.behind.Set(nil)
+	undone(1)
+	box.does(ctx, unstageCall, unstages("v", "/s"))
+	box.does(ctx, stageCall, stages("v", "/s", writers))
+	fails(codes.Unavailable)
+	box.does(ctx, publishCall, publishes("v", "/s", "/a", writers))
+	fails(codes.Internal)
+	undone(1)
+	box.refuses(ctx, codes.FailedPrecondition, "/a", unstageCall, unstages("v", "/s"))
+}
+
+// A volume whose own call begins a session keeps its id: its row is forgotten then, and made anew.
+func TestFirstOfASession(t *testing.T) {
+	for _, isNumbered := range []bool{false, true} {
+		box, ctx := newBox(t, upstream.Options{Node: "n1"}), soon(t)
+		box.metadata = isNumbered
+		box.start()
+		at := func(number string) context.Context {
+			if isNumbered {
+				return numbered(ctx, number)
+			}
+			return ctx
+		}
+		box.does(at("1.2"), stageCall, stages("v", "/s", single))
+		box.does(at("1.4"), unstageCall, unstages("v", "/s"))
+		box.restart()
+		box.does(at("2.2"), stageCall, stages("v", "/s", single))
+		if isNumbered {
+			box.refuses(at("2.2"), codes.FailedPrecondition, "number", stageCall, stages("v", "/s", writers)) // another call
+		}
+		box.does(at("2.4"), publishCall, publishes("v", "/s", "/a", single))
+		box.refuses(at("2.6"), codes.FailedPrecondition, "staged otherwise", stageCall, stages("v", "/other", single))
+		box.restart()
+		box.does(at("2.8"), stageCall, stages("w", "/w", writers)) // another volume has another row
+		box.refuses(at("2.10"), codes.FailedPrecondition, "/a", unstageCall, unstages("v", "/s"))
+	}
+	box, ctx := newBox(t, upstream.Options{Node: "n1"}), soon(t)
+	box.metadata = true
+	box.start()
+	box.does(numbered(ctx, "1.2"), stageCall, stages("v", "/s", single))
+	box.does(numbered(ctx, "1.4"), unstageCall, unstages("v", "/s"))
+	box.does(numbered(ctx, "2.6"), unstageCall, unstages("v", "/s"))
+	box.refuses(numbered(ctx, "2.4"), codes.Aborted, "stale", stageCall, stages("v", "/s", single))
+}
+
+// A publication that the plugin refuses stages nothing, of an upstream that stages nothing either.
+func TestRefusedUnstaged(t *testing.T) {
+	box, ctx := newBox(t, upstream.Options{Node: "n1"}).start(), soon(t)
+	box.refuses(ctx, codes.InvalidArgument, "target", publishCall, publishes("v", "", "a", writers))
+	box.does(ctx, publishCall, publishes("v", "", "/a", single))
+}
+
+// A duplicate of the call by which a volume was unpublished last, where that unstaged it in the ledger, gets the reply that was kept.
+func TestLastUnpublicationAgain(t *testing.T) {
+	box, ctx := newBox(t, upstream.Options{Node: "n1"}), soon(t)
+	box.metadata = true
+	box.start()
+	box.does(numbered(ctx, "1.2"), publishCall, publishes("v", "", "/a", single))
+	for turn := 0; turn < 3; turn++ {
+		if turn == 2 {
+			box.restart()
+		}
+		if _, err := box.ask(numbered(ctx, "1.4"), unpublishCall, unpublishes("v", "/a")); err != nil {
+			t.Errorf("turn %d: %v", turn, err)
+		}
+	}
+	box.refuses(numbered(ctx, "1.2"), codes.Aborted, "stale", publishCall, publishes("v", "", "/a", single))
+}
+
+// A call that is refused for want of a number is seen by those who watch, as any other one of the eight.
+func TestWatched(t *testing.T) {
+	seen := make(chan codes.Code, 1)
+	box, ctx := newBox(t, upstream.Options{Node: "n1"}), soon(t)
+	box.metadata = true
+	box.watch = func(ctx context.Context, request any, info *grpc.UnaryServerInfo, handle grpc.UnaryHandler) (any, error) {
+		response, err := handle(ctx, request)
+		seen <- status.Code(err)
+		return response, err
+	}
+	box.start()
+	box.refuses(ctx, codes.FailedPrecondition, "number", stageCall, stages("v", "/s", single))
+	if code := <-seen; code != codes.FailedPrecondition {
+		t.Errorf("they saw %v", code)
 	}
 }
 

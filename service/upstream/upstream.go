@@ -46,6 +46,7 @@ type Proxy struct {
 	taken   gauge // of nodes
 	kept    passing.Kept
 	watch   []grpc.UnaryServerInterceptor
+	unsure  unsure
 
 	mutex sync.Mutex
 	made  map[string]string // the upstream's ids of volumes, by the plugin's names of them
@@ -114,8 +115,17 @@ func (proxy *Proxy) Server(backend *driver.Backend, limits *limiting.Limits, pro
 var errPath = status.Error(codes.Unimplemented, "no path of a call, /SERVICE/METHOD: one of the eight would pass by the plugin")
 
 // isPath says whether a path is that of a call as gRPC writes it. Some servers take one without its first slash for the same call, or read it as a URI.
+// So may one with an empty segment, or with one that goes up.
 func isPath(method string) bool {
-	return strings.HasPrefix(method, "/") && !strings.ContainsAny(method, "?#%;")
+	if !strings.HasPrefix(method, "/") || strings.ContainsAny(method, "?#%;") {
+		return false
+	}
+	for _, segment := range strings.Split(method[1:], "/") {
+		if segment == "" || segment == "." || segment == ".." {
+			return false
+		}
+	}
+	return true
 }
 
 // handle answers a call of any method. A panic ends the call alone; what it panicked of isn't told, since it may show what is private.
