@@ -54,16 +54,20 @@ func (gates gates) lets(call frames.Call) bool {
 	return true
 }
 
-// openPlugins has the session begin at each plugin, side by side. The session is committed.
+// openPlugins has the session begin at the controller, and then at each node, side by side. The session is committed.
 func (host *Host) openPlugins() {
 	for name := range host.gates {
 		opening := host.core.peers.opening(name, host.core.session, host.core.token)
-		go host.openPlugin(host.calls, host.epoch, name, opening)
+		go host.openPlugin(host.calls, host.epoch, name, opening, host.gates[carrying.Controller])
 	}
 }
 
-// openPlugin has the session begin at a plugin, and asks again as long as it doesn't.
-func (host *Host) openPlugin(ctx context.Context, epoch uint64, name string, opening numbers.Opening) {
+// openPlugin has the session begin at a plugin, and asks again as long as it doesn't. At a node it begins once the controller has begun it: where this store
+// is an older copy, the controller says so, and a node that was put back with it would mount what is elsewhere by now.
+func (host *Host) openPlugin(ctx context.Context, epoch uint64, name string, opening numbers.Opening, controller <-chan struct{}) {
+	if name != carrying.Controller && !host.follows(ctx, epoch, name, controller) {
+		return
+	}
 	log := host.log.With(zap.String("plugin", name), zap.Uint64("session", opening.Session))
 	for wait := host.times.Retry; ; wait = 2 * wait {
 		err := host.carrier.Begin(ctx, name, opening)
@@ -93,6 +97,22 @@ func (host *Host) openPlugin(ctx context.Context, epoch uint64, name string, ope
 	}
 }
 
+// follows waits until the controller has begun the session, and then tells so. If that isn't soon, why a node hasn't begun it is noted meanwhile.
+func (host *Host) follows(ctx context.Context, epoch uint64, node string, controller <-chan struct{}) bool {
+	late := time.NewTimer(host.times.Retry)
+	defer late.Stop()
+	for {
+		select {
+		case <-controller:
+			return true
+		case <-late.C:
+			host.board.note(epoch, node, "it waits until the controller has begun the session")
+		case <-ctx.Done():
+			return false
+		}
+	}
+}
+
 // begunAt says that a plugin has begun the session.
 type begunAt struct {
 	plugin string
@@ -109,6 +129,9 @@ func (it *begunAt) ask(host *Host, work *work) error {
 	gate := host.gates[it.plugin]
 	work.after = append(work.after, func() {
 		host.board.note(it.epoch, it.plugin, "")
+		if it.plugin == carrying.Controller {
+			host.board.current()
+		}
 		close(gate)
 	})
 	return nil

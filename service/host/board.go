@@ -33,7 +33,9 @@ type board struct {
 	heard    map[string]frames.Number
 	watchers map[*Watching]bool
 	most     int // events that a watcher may be behind
-	isClosed bool
+
+	isCurrent bool // the controller has begun a session since this process serves: so its store is no older copy
+	isClosed  bool
 }
 
 // A posted is a volume, and the count of the event that changed it last.
@@ -78,11 +80,18 @@ func (host *Host) Trouble(plugin string) string {
 	return host.board.troubles[plugin]
 }
 
-// Heard is the last call that a plugin acknowledged that it heard, as far as that is committed.
+// current notes that the store is no older copy.
+func (board *board) current() {
+	board.mutex.Lock()
+	defer board.mutex.Unlock()
+	board.isCurrent = true
+}
+
+// Heard is the last call that a plugin acknowledged that it heard, as far as that is committed. It isn't known before the controller has begun a session.
 func (host *Host) Heard(plugin string) (heard frames.Number, isKnown bool) {
 	host.board.mutex.RLock()
 	defer host.board.mutex.RUnlock()
-	return host.board.heard[plugin], !host.board.isClosed
+	return host.board.heard[plugin], host.board.isCurrent && !host.board.isClosed
 }
 
 // An Event is what became of a volume, or of a node. One of the last three fields counts.

@@ -10,17 +10,31 @@ import (
 	"strings"
 	"time"
 
+	"tufayon/service/frames"
 	"tufayon/service/numbers"
 	"tufayon/service/plugin"
 	"tufayon/service/records"
 	"tufayon/service/store"
 )
 
+// library is the library's orchestrator, as plugin.Orchestrator has it.
+type library interface {
+	Create(name string, required, limit uint64, capabilities []frames.Capability) (plugin.Outcome, error)
+	Use(name, node, target string, capability frames.Capability, readonly bool) (plugin.Outcome, error)
+	Stop(name, node, target string) (plugin.Outcome, error)
+	Delete(name string) (plugin.Outcome, error)
+	Timeout(name string) (plugin.Outcome, error)
+	Lose(node string) (plugin.Outcome, error)
+	Deliver(came []byte) (plugin.Outcome, error)
+	Changes() ([]store.Change, error)
+	Free()
+}
+
 // core is the library's orchestrator over its store. The goroutine that made it makes all its calls.
 type core struct {
 	store   store.Store
 	nodes   []string // those that it lists
-	library *plugin.Orchestrator
+	library library
 	session uint64
 	after   uint64                  // the session that the store had before the present one, 0 where it had none
 	rows    map[uint64]*records.Row // by their keys; what was asked since the last commit is in them
@@ -274,15 +288,11 @@ func (core *core) note() (*records.Row, error) {
 	return row, nil
 }
 
-// lose asks the library for a node's loss. Its changes are the whole record.
-func (core *core) lose(node string) (plugin.Outcome, error) {
-	outcome, err := core.library.Lose(node)
-	if err != nil || outcome.Refusal != 0 {
-		return outcome, err
-	}
+// noteLoss takes over that the library has lost a node. Its changes are the whole record. Where it fails, the library is another one than what is kept.
+func (core *core) noteLoss(node string) error {
 	changes, err := core.library.Changes()
 	if err != nil {
-		return outcome, err
+		return fmt.Errorf("what the loss of %s changed: %w", node, err)
 	}
 	core.changes = append(core.changes, changes...)
 	var left []string
@@ -294,7 +304,7 @@ func (core *core) lose(node string) (plugin.Outcome, error) {
 	core.nodes = left
 	err = core.takeAll(changes)
 	core.peers.loses(node, core.session)
-	return outcome, err
+	return err
 }
 
 // mostChanges is after how many changes and sides a commit is made, whoever waits: a transaction of etcd takes 120, and more goes in pieces, one by one.

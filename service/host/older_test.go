@@ -264,6 +264,42 @@ func TestPluginSetBack(t *testing.T) {
 	does(t, made, use("v", "n2", "/a"))
 }
 
+// A node that was set back together with the orchestrator hears nothing of it: the controller is asked first, and says that the orchestrator's store is older.
+func TestNodeSetBackWithIt(t *testing.T) {
+	shard, kept := newShard(t), hosttest.NewStore()
+	made := serveShard(shard, kept)
+	n1 := carrying.NodeName("n1")
+	does(t, made, create("v"))
+	does(t, made, use("v", "n1", "/a"))
+	older, itsOlder := kept.Copy(), shard.places[n1].kept.Copy()
+	does(t, made, stop("v", "n1", "/a"))
+	does(t, made, use("v", "n2", "/a"))
+	made.Close()
+	shard.put(n1, itsOlder, 0)
+	begun := itsOlder.Side("begun")
+	is := func(name string, isGone bool) {
+		shard.mutex.Lock()
+		defer shard.mutex.Unlock()
+		shard.gone[name] = isGone
+	}
+	is(carrying.Controller, true)
+	made = serveShard(shard, older)
+	soon(t, "the controller isn't reached", func() bool { return made.Trouble(carrying.Controller) != "" && made.Trouble(n1) != "" })
+	time.Sleep(20 * quick.Retry)
+	if _, isKnown := made.Heard(n1); isKnown || itsOlder.Side("begun") != begun {
+		t.Errorf("the node is told of it: %v, %s", isKnown, itsOlder.Side("begun"))
+	}
+	is(carrying.Controller, false)
+	if err := ends(t, made); !errors.Is(err, store.ErrOlder) {
+		t.Errorf("it ended by %v", err)
+	}
+	if _, isKnown := made.Heard(n1); isKnown || itsOlder.Side("begun") != begun {
+		t.Errorf("the node was told of it: %v, %s", isKnown, itsOlder.Side("begun"))
+	}
+	made = serveShard(shard, kept)
+	soon(t, "with its own store the node is told", func() bool { _, isKnown := made.Heard(n1); return isKnown })
+}
+
 // A node that was lost isn't used when it comes back, and another one under its id is, which joins with the session of the loss.
 func TestLostComesBack(t *testing.T) {
 	shard, kept := newShard(t), hosttest.NewStore()

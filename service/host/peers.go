@@ -80,17 +80,18 @@ func (peers *peers) read(name string, value []byte) (err error) {
 	return err
 }
 
-// sides are those that changed since the last commit, as they are now.
+// sides are those that changed since the last commit, as they are now. That a node was lost, and in which session nodes were listed, is there before the
+// record has it: else a process that ends between the two would leave a lost node that isn't asked to be new.
 func (peers *peers) sides() []store.Side {
 	var sides []store.Side
 	for name := range peers.changed {
 		if name == listName {
-			sides = append(sides, store.Side{Name: name, Value: []byte(strconv.FormatUint(peers.list, 10))})
+			sides = append(sides, store.Side{Name: name, Value: []byte(strconv.FormatUint(peers.list, 10)), First: true})
 			continue
 		}
 		its := peers.of[strings.TrimPrefix(name, pluginName)]
 		value, _ := json.Marshal(spelled{numbers.Text(its.sent), numbers.Text(its.heard), its.isNew, its.isUnknown}) // texts always can be
-		sides = append(sides, store.Side{Name: name, Value: value})
+		sides = append(sides, store.Side{Name: name, Value: value, First: its.isNew})
 	}
 	return sides
 }

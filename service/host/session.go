@@ -64,7 +64,7 @@ type losing struct {
 func (it *losing) alone() bool { return true }
 
 func (it *losing) ask(host *Host, work *work) error {
-	outcome, err := host.core.lose(it.node)
+	outcome, err := host.core.library.Lose(it.node)
 	came := begun{}
 	switch {
 	case errors.Is(err, plugin.BadName):
@@ -76,6 +76,9 @@ func (it *losing) ask(host *Host, work *work) error {
 	case outcome.Refusal != 0:
 		came.err = Refusal(outcome.Refusal)
 	default:
+		if err := host.core.noteLoss(it.node); err != nil {
+			return err
+		}
 		came.session = host.core.session
 		host.log.Warn("a node is lost", zap.String("node", it.node), zap.Uint64("session", came.session))
 		work.lost = it.node
