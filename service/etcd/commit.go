@@ -274,18 +274,19 @@ func (leading *leading) transact(ctx context.Context, mark string, operations []
 // withoutSpace says of a transaction, as transact does, what became of it where etcd answers that it has no space. Most such it didn't carry out. One that it
 // took before it knew it does, and answers so nevertheless: then the mark is there. One that was asked for before, and not answered, may still come.
 func (leading *leading) withoutSpace(ctx context.Context, mark string, isFirst bool, why error) (bool, error) {
-	found := leading.last
-	if mark != "" {
-		got, err := leading.get(ctx, leading.countKey())
-		if err != nil {
-			return false, fmt.Errorf("%w: %v: %v", store.ErrUnknown, why, err)
-		}
-		if found = ""; len(got.Kvs) > 0 {
-			found = string(got.Kvs[0].Value)
-		}
+	if mark == "" { // one that changes nothing may be asked for beside a commit, to which the rest belongs
+		return false, fmt.Errorf("%w: %v", store.ErrNoSpace, why)
+	}
+	got, err := leading.get(ctx, leading.countKey())
+	if err != nil {
+		return false, fmt.Errorf("%w: %v: %v", store.ErrUnknown, why, err)
+	}
+	found := ""
+	if len(got.Kvs) > 0 {
+		found = string(got.Kvs[0].Value)
 	}
 	switch {
-	case mark != "" && found == mark:
+	case found == mark:
 		return true, nil
 	case isFirst && found == leading.last:
 		return false, fmt.Errorf("%w: %v", store.ErrNoSpace, why)

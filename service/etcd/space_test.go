@@ -66,6 +66,19 @@ func (it *full) Range(_ context.Context, asked *etcdserverpb.RangeRequest) (*etc
 	return found, nil
 }
 
+// A confirmation for which there is no space looks at nothing of the commit that is made beside it.
+func TestNoSpaceBeside(t *testing.T) {
+	leading, changed := &leading{last: "1 a"}, make(chan struct{})
+	go func() {
+		defer close(changed)
+		leading.last = "2 a"
+	}()
+	if _, err := leading.withoutSpace(context.Background(), "", false, rpctypes.ErrNoSpace); !errors.Is(err, store.ErrNoSpace) {
+		t.Error(err)
+	}
+	<-changed
+}
+
 // What etcd has no space for isn't made, and is told so: but where it is made all the same, or may be.
 func TestNoSpace(t *testing.T) {
 	small, large := []store.Change{{Key: 1, Value: []byte("a")}}, make([]store.Change, 200) // in two pieces

@@ -12,6 +12,7 @@ import (
 	"time"
 
 	"go.uber.org/zap"
+	"golang.org/x/sys/unix"
 
 	"tufayon/service/records"
 )
@@ -62,11 +63,11 @@ func (made *History) open(path string) error {
 		}
 	}
 	made.file = &file{path: path, isStale: true}
-	made.save()
-	if err := made.file.err; !isFull(err) {
-		return err
+	// It is written anew with the first event, and left as it is until then: another process may serve with it, and then this one ends without any.
+	if err := unix.Access(filepath.Dir(path), unix.W_OK); err != nil {
+		return &os.PathError{Op: "write", Path: filepath.Dir(path), Err: err}
 	}
-	return nil // it goes on in memory, as where the disk gets full later
+	return nil
 }
 
 // isFull says whether something can't be written since the disk is full.

@@ -298,6 +298,31 @@ func TestFile(t *testing.T) {
 	again.Close()
 }
 
+// Another process that opens the file, and ends without an event, leaves it to the one that writes it.
+func TestOpenedTwice(t *testing.T) {
+	made := newRun(t, 10, "n1")
+	made.must(create("v"))
+	for turn := 0; turn < 2; turn++ {
+		other, err := Open(made.file, 10, zap.NewNop())
+		if err != nil {
+			t.Fatal(err)
+		}
+		if err := other.Close(); err != nil {
+			t.Error(err)
+		}
+	}
+	made.must(create("w"))
+	made.stop()
+	again, err := Open(made.file, 10, zap.NewNop())
+	if err != nil {
+		t.Fatal(err)
+	}
+	defer again.Close()
+	if kept, _ := again.Count(); kept != 5 { // a session, two commands and two replies
+		t.Errorf("%d events are kept", kept)
+	}
+}
+
 // Where the disk gets full the history goes on in memory, and once that has room the file has all again.
 func TestFullDisk(t *testing.T) {
 	path := filepath.Join(t.TempDir(), "history")

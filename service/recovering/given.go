@@ -68,6 +68,9 @@ func (given *given) read(ctx context.Context, recovery *Recovery) error {
 	for at := 0; err == nil && at < len(recovery.Nodes); at++ {
 		var it *kept
 		if it, err = read(ctx, recovery.Nodes[at], makerOf); err != nil {
+			if errors.Is(err, plugin.BadName) {
+				err = plugin.BadRecord // its head has an id that no node has
+			}
 			return placed(err, at+2)
 		}
 		given.nodes = append(given.nodes, it)

@@ -262,8 +262,13 @@ func TestRefused(t *testing.T) {
 	if err := os.WriteFile(set.path("empty"), nil, 0o600); err != nil {
 		t.Fatal(err)
 	}
+	nameless := set.open("nameless") // a node's head with an id of no byte
+	if err := nameless.Commit(ctx, false, []store.Change{{Key: records.HeadKey, Value: append([]byte{3, 1, 0}, make([]byte, 8)...)}}); err != nil {
+		t.Fatal(err)
+	}
+	nameless.Close()
 	before := map[string]any{}
-	names := []string{"controller", "n1", "n2", "other"}
+	names := []string{"controller", "n1", "n2", "other", "nameless"}
 	for _, name := range names {
 		before[name], _ = set.has(name)
 	}
@@ -278,6 +283,7 @@ func TestRefused(t *testing.T) {
 		{0, config, []string{"n1", "other", "n2"}, "stores disagree, store 3", plugin.Disagrees},
 		{0, `{"greatest":1,"nodes":[{"id":"n1","slots":1}]}`, []string{"n1", "n2"}, "node in use", plugin.NodeInUse},
 		{0, config, []string{"n1", "empty"}, "record fault, store 3", plugin.BadRecord},
+		{0, config, []string{"n1", "n2", "nameless"}, "record fault, store 4", plugin.BadRecord},
 		{1<<64 - 1, config, []string{"n1", "n2"}, "numbers spent", numbers.ErrSpent},
 		{0, "{}", []string{"n1", "n2"}, "config refused", plugin.BadName},
 	} {
