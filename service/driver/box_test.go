@@ -94,12 +94,16 @@ type told struct {
 	answer hooks.Answer
 	fault  error
 	refuse error
+	then   func() // once a deed is told; nil for nothing
 }
 
 func (told *told) Judge(hooks.Deed) error { return told.refuse }
 
 func (told *told) Do(_ context.Context, deed hooks.Deed) (hooks.Answer, error) {
 	told.deeds = append(told.deeds, deed)
+	if told.then != nil {
+		told.then()
+	}
 	return told.answer, told.fault
 }
 

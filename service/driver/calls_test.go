@@ -48,6 +48,49 @@ func TestFromAll(t *testing.T) {
 	}
 }
 
+// What was attached while one detach waited is detached too.
+func TestFromAllAgain(t *testing.T) {
+	arrival, err := numbers.NewArrival(1)
+	if err != nil {
+		t.Fatal(err)
+	}
+	box := newBox(t)
+	box.core.source = arrival
+	box.backend.Serve(box.core)
+	box.row(attached)
+	box.told.then = func() {
+		box.row(strings.Replace(attached, "02 026e31", "03 026e33 00 05 00 026e31", 1))
+	}
+	if _, err := wire.NewControllerClient(box.client).ControllerUnpublishVolume(
+		context.Background(), &wire.ControllerUnpublishVolumeRequest{VolumeId: "1"},
+	); err != nil {
+		t.Error(err)
+	}
+	var nodes []string
+	for _, deed := range box.told.deeds {
+		nodes = append(nodes, deed.Node)
+	}
+	if came := strings.Join(nodes, " "); came != "n1 n2 n3" {
+		t.Errorf("detached from %s", came)
+	}
+}
+
+// What is published at one path by two spellings of it stays until the last of them is undone.
+func TestSpellings(t *testing.T) {
+	for _, it := range []struct {
+		targets string
+		deeds   int
+	}{{"02 022f74 00 032f742f 00", 0}, {"02 022f74 00 032f7475 00", 1}, {"01 022f74 00", 1}} {
+		box := newBox(t)
+		box.backend.Serve(box.core)
+		box.row(strings.Replace(staged, "01 022f74 00", it.targets, 1))
+		_, err := wire.NewNodeClient(box.client).NodeUnpublishVolume(by("3.1"), &wire.NodeUnpublishVolumeRequest{VolumeId: "1", TargetPath: "/t"})
+		if err != nil || len(box.told.deeds) != it.deeds {
+			t.Errorf("of %s: %v, %+v", it.targets, err, box.told.deeds)
+		}
+	}
+}
+
 // Where nothing is to be done, nothing is asked to be.
 func TestNothingToDo(t *testing.T) {
 	request := asking(nil, frames.DeleteVolume{ID: 1}, hooks.Deed{Call: "DeleteVolume"}, always)

@@ -90,22 +90,34 @@ func (controller *controller) ControllerUnpublishVolume(
 }
 
 func (controller *controller) detach(ctx context.Context, body frames.ControllerUnpublishVolume, private hooks.Private) error {
-	nodes := []string{body.Node}
-	if body.Node == "" {
+	if body.Node != "" {
+		return controller.detachFrom(ctx, body, private)
+	}
+	tried := map[string]bool{}
+	for isAll := false; !isAll; { // again, since it may have been attached elsewhere while one detach waited
 		volume, err := controller.volume(ctx, body.ID)
 		if err != nil {
 			return err
 		}
-		nodes = volume.Nodes
-	}
-	for _, node := range nodes {
-		body.Node = node
-		deed := hooks.Deed{Call: "ControllerUnpublishVolume", Node: node, Private: private}
-		if _, err := controller.backend.carry(ctx, asking(controller.does, body, deed, isAt(node))); err != nil {
-			return err
+		isAll = true
+		for _, node := range volume.Nodes {
+			if tried[node] {
+				continue
+			}
+			isAll, tried[node], body.Node = false, true, node
+			if err := controller.detachFrom(ctx, body, private); err != nil {
+				return err
+			}
 		}
 	}
 	return nil
+}
+
+// detachFrom has a volume detached from one node.
+func (controller *controller) detachFrom(ctx context.Context, body frames.ControllerUnpublishVolume, private hooks.Private) error {
+	deed := hooks.Deed{Call: "ControllerUnpublishVolume", Node: body.Node, Private: private}
+	_, err := controller.backend.carry(ctx, asking(controller.does, body, deed, isAt(body.Node)))
+	return err
 }
 
 // volume is what the record has of a volume: nothing where it has no row.

@@ -2,6 +2,7 @@ package driver
 
 import (
 	"context"
+	"path/filepath"
 
 	"google.golang.org/grpc"
 	"google.golang.org/grpc/codes"
@@ -129,13 +130,24 @@ func (node *node) NodePublishVolume(ctx context.Context, request *wire.NodePubli
 	return &wire.NodePublishVolumeResponse{}, found(err)
 }
 
+// isSpelledElse says whether one of these targets is another text for the same path, as with a slash at its end: what is published there stays, until the last
+// of them is undone.
+func isSpelledElse(targets []string, target string) bool {
+	for _, it := range targets {
+		if it != target && filepath.Clean(it) == filepath.Clean(target) {
+			return true
+		}
+	}
+	return false
+}
+
 // NodeUnpublishVolume has that undone.
 func (node *node) NodeUnpublishVolume(ctx context.Context, request *wire.NodeUnpublishVolumeRequest) (*wire.NodeUnpublishVolumeResponse, error) {
 	body, err := translate.NodeUnpublishVolume(request)
 	if err == nil {
 		err = node.undo(ctx, body, hooks.Deed{Call: "NodeUnpublishVolume", Target: body.Target}, func(known serving.Known) (bool, error) {
 			row, err := rowOf(known)
-			return row.IsAt(body.Target), err
+			return row.IsAt(body.Target) && !isSpelledElse(row.Targets, body.Target), err
 		})
 	}
 	return &wire.NodeUnpublishVolumeResponse{}, undone(err)

@@ -6,6 +6,7 @@ import (
 	"encoding/json"
 	"errors"
 	"fmt"
+	"io"
 	"strconv"
 	"strings"
 
@@ -138,10 +139,10 @@ func (deed Deed) ReadAnswer(output []byte) (Answer, error) {
 	}
 	decoder := json.NewDecoder(bytes.NewReader(output))
 	decoder.DisallowUnknownFields()
-	if err := decoder.Decode(&answer); err != nil {
+	if err := decoder.Decode(&answer); err != nil || bytes.TrimSpace(output)[0] != '{' { // null is none
 		return Answer{}, fmt.Errorf("%w is no such object", errAnswer) // the reason might show what is private
 	}
-	if decoder.More() {
+	if _, err := decoder.Token(); err != io.EOF {
 		return Answer{}, fmt.Errorf("%w is more than an object", errAnswer)
 	}
 	if deed.Call == "CreateVolume" && answer.PublishContext != nil || deed.Call != "CreateVolume" && answer.VolumeContext != nil {

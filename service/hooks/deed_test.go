@@ -39,13 +39,14 @@ func TestInput(t *testing.T) {
 	}
 }
 
-// A secret is hidden wherever it stands, a parameter or a flag where it is a word.
+// A secret is hidden wherever it stands, a parameter, a flag or what a context has where it is a word.
 func TestHide(t *testing.T) {
 	deed := Deed{Private: private}
 	for text, want := range map[string]string{
 		"with s3cret-and-more, s3crets and xs3cret": "with ***, ***s and x***",
 		"process of pool fast (ro,data=ordered)":    "process of pool *** (***,***)",
 		"ro":                                        "***",
+		"at 1 and 2, not 12":                        "at *** and ***, not 12",
 		"wrong, faster, \u00e9ro, ro\u00e9":         "wrong, faster, \u00e9ro, ro\u00e9",
 		"":                                          "",
 	} {
@@ -95,6 +96,9 @@ func TestAnswers(t *testing.T) {
 		{"CreateVolume", `{"other":1}`, "", "", "the hook's answer is no such object"},
 		{"CreateVolume", `{"volume_context":{"k":1}}`, "", "", "the hook's answer is no such object"},
 		{"CreateVolume", `{}{}`, "", "", "the hook's answer is more than an object"},
+		{"CreateVolume", `{"volume_context":{"k":"a"}}}`, "", "", "the hook's answer is more than an object"},
+		{"ControllerPublishVolume", `{"publish_context":{"k":"b"}}]`, "", "", "the hook's answer is more than an object"},
+		{"CreateVolume", "null", "", "", "the hook's answer is no such object"},
 		{"CreateVolume", `{"volume_context":{"k":"` + long + `"}}`, "", "", "the hook's answer has a context of more than 4096 bytes"},
 		{"CreateVolume", `{"volume_context":{"k":"a s3cret b"}}`, "", "", "the hook's answer tells a secret"},
 	} {

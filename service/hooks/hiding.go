@@ -12,13 +12,15 @@ const (
 	leastLine = 4 // bytes of a line that tells something of a secret of several
 )
 
-// Hide gives a text with *** in place of each secret of the deed, and of each of its lines, and of each parameter and mount flag where it stands as a
-// word of its own: a flag may be as short as ro.
+// Hide gives a text with *** in place of each secret of the deed, and of each of its lines, and of each parameter, mount flag and value of a context where it
+// stands as a word of its own: a flag may be as short as ro.
 func (deed Deed) Hide(text string) string {
 	for _, secret := range longestFirst(deed.Private.secrets()) {
 		text = strings.ReplaceAll(text, secret, hidden)
 	}
 	words := append(valuesOf(deed.Private.Parameters), deed.Private.MountFlags...)
+	words = append(words, valuesOf(deed.Private.VolumeContext)...)
+	words = append(words, valuesOf(deed.Private.PublishContext)...)
 	for _, word := range longestFirst(words) {
 		text = hideWord(text, word)
 	}

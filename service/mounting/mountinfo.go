@@ -12,7 +12,7 @@ import (
 // A source is what a mount shows: a directory, or a file, of a file system. Two mounts of one source show the same.
 type source struct {
 	device string // major:minor, as the kernel lists it
-	root   string // its path in the file system
+	root   string // its path in the file system; of NFS, which lists each as /, the server and the path there
 }
 
 // A mount is a line of /proc/self/mountinfo (proc(5)), as far as it is needed.
@@ -78,7 +78,16 @@ func readMount(line string) (mount, error) {
 		return mount{}, fmt.Errorf("no line of a mount: %q", line)
 	}
 	id, err := strconv.Atoi(fields[0])
-	return mount{id: id, source: source{device: fields[2], root: unescaped(fields[3])}, point: unescaped(fields[4])}, err
+	return mount{id: id, source: source{device: fields[2], root: rootOf(fields[3], fields[5])}, point: unescaped(fields[4])}, err
+}
+
+// rootOf is the root of a mount, of which the list has this one, and behind the point this: options, a dash, the type, the device, and more.
+func rootOf(listed, rest string) string {
+	_, behind, _ := strings.Cut(rest, " - ")
+	if of := strings.Fields(behind); len(of) > 1 && strings.HasPrefix(of[0], "nfs") {
+		return path.Clean(unescaped(of[1]))
+	}
+	return unescaped(listed)
 }
 
 // unescaped reads a path of the list, in which blanks and backslashes are written as a backslash and three octal digits.

@@ -7,6 +7,7 @@ import (
 	"fmt"
 	"io/fs"
 	"os"
+	"sync"
 
 	"golang.org/x/sys/unix"
 
@@ -121,7 +122,12 @@ func publish(deed hooks.Deed) error {
 	return nil
 }
 
+// placing has one mount made at a time: of two at one place the second would be made above the first, though nothing was there when it was looked at.
+var placing sync.Mutex
+
 func publishAt(target *place, volume *staged, wanted attributes) error {
+	placing.Lock()
+	defer placing.Unlock()
 	directory, err := target.open(unix.O_PATH | unix.O_DIRECTORY)
 	if err != nil {
 		return err
@@ -177,7 +183,7 @@ func (place *place) shows(file *os.File, wanted source) error {
 func unpublish(deed hooks.Deed) error {
 	target, err := openPlace(deed.Target)
 	if errors.Is(err, fs.ErrNotExist) {
-		return nil // the directory of the target is gone, and so is what was in it
+		return hidden(deed.Target, deed.Staging) // else the directory of the target is gone, and so is what was in it
 	}
 	if err != nil {
 		return unreached(deed.Target, deed.Staging, err)
@@ -189,6 +195,9 @@ func unpublish(deed hooks.Deed) error {
 		case err != nil || isOther:
 			return err
 		case !isVolume:
+			if err := hidden(target.path, deed.Staging); err != nil {
+				return err
+			}
 			return target.take()
 		}
 		// Of the directory that was opened, since a link may stand in the path by now.
@@ -197,6 +206,29 @@ func unpublish(deed hooks.Deed) error {
 			return target.fails(err)
 		}
 	}
+}
+
+// hidden fails where the volume is mounted at a path that doesn't lead there, since something else was mounted above a directory on the way.
+func hidden(path, staging string) error {
+	whole, err := clean(path)
+	if err != nil {
+		return err
+	}
+	found, err := mounts(func(it mount) bool { return it.point == whole })
+	if err != nil || len(found) == 0 {
+		return err
+	}
+	volume, err := openStaged(staging)
+	if err != nil {
+		return fmt.Errorf("what is mounted at %s, and hidden, can't be compared with the volume: %w", whole, err)
+	}
+	defer volume.close()
+	for _, it := range found {
+		if it.source == volume.source {
+			return fmt.Errorf("%s: the volume is mounted there, and hidden: %w", whole, ErrOther)
+		}
+	}
+	return nil
 }
 
 // unreached is what becomes of undoing a publication at a target that isn't reached, as one behind a link, where nothing can have been published either: it is

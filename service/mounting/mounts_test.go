@@ -5,6 +5,7 @@ import (
 	"errors"
 	"os"
 	"path/filepath"
+	"reflect"
 	"runtime"
 	"strings"
 	"testing"
@@ -425,6 +426,58 @@ func TestJudge(t *testing.T) {
 		if err := (Mounts{}).Judge(deed); err != nil {
 			t.Errorf("%s is refused by %v", deed.Call, err)
 		}
+	}
+}
+
+// Of NFS the kernel lists each root as /, and mounts of one server's file system have one device: what they show is told by the device's name.
+func TestNFS(t *testing.T) {
+	const list = "40 35 0:50 / /mnt/n rw,relatime shared:3 - nfs4 h:/e rw,vers=4.2\n" +
+		"41 35 0:50 / /t rw - nfs4 h:/e/s/5 rw\n" +
+		"42 35 0:50 / /u rw - nfs4 h:/e/s\\0406 rw\n" +
+		"43 35 0:51 / /v rw - nfs h:/ rw\n"
+	found, err := readMounts([]byte(list), func(mount) bool { return true })
+	want := []mount{
+		{40, source{"0:50", "h:/e"}, "/mnt/n"}, {41, source{"0:50", "h:/e/s/5"}, "/t"}, {42, source{"0:50", "h:/e/s 6"}, "/u"}, {43, source{"0:51", "h:"}, "/v"},
+	}
+	if err != nil || !reflect.DeepEqual(found, want) {
+		t.Errorf("%+v, %v", found, err)
+	}
+}
+
+// A volume that is mounted below what was mounted above a directory of its target isn't taken for one that is unmounted.
+func TestHidden(t *testing.T) {
+	box := newBox(t)
+	box.stages("v")
+	for _, it := range []struct{ above, target string }{{"p", "p/t"}, {"q", "q/r/t"}} {
+		box.must(os.MkdirAll(filepath.Dir(box.at(it.target)), 0o700))
+		box.must(box.does(box.publication("v", it.target)))
+		box.tmpfs(it.above, 0)
+		box.wants(box.unpublishes("v", it.target), ErrOther)
+		box.must(unix.Unmount(box.at(it.above), 0))
+		box.wantsMounts(it.target, 1)
+		box.must(box.unpublishes("v", it.target))
+		box.wantsMounts(it.target, 0)
+	}
+}
+
+// Of two volumes that are published at one target at once, one is.
+func TestAtOnce(t *testing.T) {
+	box := newBox(t)
+	box.stages("v")
+	box.stages("w")
+	for round := 0; round < 200; round++ {
+		came := make(chan error, 2)
+		for _, volume := range []string{"v", "w"} {
+			go func(deed hooks.Deed) { came <- box.does(deed) }(box.publication(volume, "t"))
+		}
+		if first, second := <-came, <-came; first == nil && second == nil {
+			t.Errorf("round %d: both are published", round)
+		}
+		box.wantsMounts("t", 1)
+		for _, volume := range []string{"v", "w"} {
+			box.unpublishes(volume, "t") // one of them has nothing there
+		}
+		box.wantsMounts("t", 0)
 	}
 }
 

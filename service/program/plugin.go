@@ -205,11 +205,10 @@ func deedsOf(read *settings.PluginSettings) life.Deeds {
 		deeds.Commands[settings.Deeds[read.Role][deed]] = command
 	}
 	if its.Store == "" { // in etcd
-		folder := os.Getenv("RUNTIME_DIRECTORY") // a unit's of systemd, where the file's can't be written
-		if folder == "" {
-			folder = filepath.Dir(read.File)
+		deeds.Locks = read.File + ".hooks"
+		if folder := os.Getenv("RUNTIME_DIRECTORY"); folder != "" { // a unit's of systemd, where the file's can't be written
+			deeds.Locks = filepath.Join(folder, "hooks")
 		}
-		deeds.Locks = filepath.Join(folder, "hooks")
 	}
 	return deeds
 }

@@ -8,7 +8,6 @@ import (
 	"io"
 	"net"
 	"os"
-	"path/filepath"
 	"strings"
 	"time"
 
@@ -268,7 +267,7 @@ func (options *options) deeds() life.Deeds {
 		deeds.Commands[call] = *command
 	}
 	if options.database == "" {
-		deeds.Locks = filepath.Join(filepath.Dir(options.socket), "hooks")
+		deeds.Locks = options.socket + ".hooks"
 	}
 	return deeds
 }
