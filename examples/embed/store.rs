@@ -56,7 +56,7 @@ pub fn load(store: &Store) -> Vec<u8> {
         bytes.extend([column(0), &(column(1).len() as u32).to_be_bytes(), column(1)].concat());
         bytes[1..5].copy_from_slice(&parts.to_be_bytes());
     }
-    unsafe { sqlite3_finalize(all) };
+    assert!(unsafe { sqlite3_finalize(all) } == 0, "the store"); // what the last step failed with: else half a record would seem to be all
     bytes
 }
 

@@ -5,6 +5,7 @@ import random
 import signal
 import subprocess
 import sys
+import time
 
 from .running import LIMIT, of_rows, wanted
 from .talks import BLOCK, Talk
@@ -35,7 +36,20 @@ def joined(box, given, after=None):
             return running.returncode, out
         except subprocess.TimeoutExpired:
             os.killpg(running.pid, signal.SIGKILL)
+            running.wait()
+            gone(running.pid)
             return None
+
+
+def gone(group):
+    """Waits until no process of a group is left: one that is killed while it syncs has its store until that is over."""
+    until = time.monotonic() + LIMIT
+    while time.monotonic() < until:
+        try:
+            os.killpg(group, 0)
+        except ProcessLookupError:
+            return
+        time.sleep(0.01)
 
 
 def audited(box, told):

@@ -58,7 +58,7 @@ def main():
         stage = b"".join(figures.stage(it, it) for it in range(1, 101))
         run("node", "node.db", "n1", given=stage + figures.in_turn((figures.publish_at, figures.unpublish_at), 500))
         run("node", "node.db", "n1", given=b"".join(figures.unstage(20_000 + it, it, 2) for it in range(1, 51)))
-        subprocess.run([sys.executable, "-B", f"{TOP}/tools/embed.py", "draw", program, folder, f"{folder}/config", "2", "400", "3"], check=True, timeout=600)
+        subprocess.run([sys.executable, "-B", f"{TOP}/tools/embed.py", "draw", program, folder, "16", "50", "3"], check=True, timeout=600)
         for store in ("controller.db", "node.db", "drawn.db"):
             run("record", store)
 
