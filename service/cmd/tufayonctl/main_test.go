@@ -171,11 +171,15 @@ func TestWatchGoesOn(t *testing.T) {
 	defer interrupt()
 	made, end := serveAt(t, path, kept)
 	says(t, "unix://"+path, "create|v|--block|--wait", 0, "yes")
+	watchers := func(want int) {
+		for until := time.Now().Add(10 * time.Second); made.Counts().Watchers != want && time.Now().Before(until); {
+			time.Sleep(time.Millisecond)
+		}
+	}
+	watchers(0) // who waited for the create watched
 	output, code := &said{}, make(chan int, 1)
 	go func() { code <- run(ctx, []string{"--address", "unix://" + path, "watch"}, output, output) }()
-	for until := time.Now().Add(10 * time.Second); made.Counts().Watchers == 0 && time.Now().Before(until); {
-		time.Sleep(time.Millisecond)
-	}
+	watchers(1)
 	says(t, "unix://"+path, "create|u|--block|--wait", 0, "yes")
 	output.soon(t, "u: at rest, exists yes", 1)
 	end()
