@@ -256,8 +256,13 @@ func TestWatched(t *testing.T) {
 	}
 	box.start()
 	box.refuses(ctx, codes.FailedPrecondition, "number", stageCall, stages("v", "/s", single))
-	if code := <-seen; code != codes.FailedPrecondition {
-		t.Errorf("they saw %v", code)
+	select {
+	case code := <-seen:
+		if code != codes.FailedPrecondition {
+			t.Errorf("they saw %v", code)
+		}
+	case <-ctx.Done():
+		t.Error("they saw nothing")
 	}
 }
 
