@@ -41,14 +41,23 @@ def joined(box, given, after=None):
             return None
 
 
+def lives(group):
+    """Whether a process of a group has anything still: one that nobody has waited for has not."""
+    for name in filter(str.isdigit, os.listdir("/proc")):
+        try:
+            with open(f"/proc/{name}/stat", "rb") as file:
+                state, _, its = file.read().rpartition(b")")[2].split()[:3]
+        except OSError:
+            continue  # it is gone
+        if int(its) == group and state not in (b"Z", b"X"):
+            return True
+    return False
+
+
 def gone(group):
     """Waits until no process of a group is left: one that is killed while it syncs has its store until that is over."""
     until = time.monotonic() + LIMIT
-    while time.monotonic() < until:
-        try:
-            os.killpg(group, 0)
-        except ProcessLookupError:
-            return
+    while lives(group) and time.monotonic() < until:
         time.sleep(0.01)
 
 
