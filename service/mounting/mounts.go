@@ -122,12 +122,36 @@ func publish(deed hooks.Deed) error {
 	return nil
 }
 
-// placing has one mount made at a time: of two at one place the second would be made above the first, though nothing was there when it was looked at.
-var placing sync.Mutex
+// placing has one mount made at a time at a place: of two the second would be made above the first, though nothing was there when it was looked at. Others are
+// held up by nothing that hangs there.
+var placing = struct {
+	mutex sync.Mutex
+	at    map[string]chan struct{} // by its path, closed once it is left
+}{at: map[string]chan struct{}{}}
+
+// placed waits until nobody makes a mount at a path, and has that so until what it gives is called.
+func placed(path string) (leave func()) {
+	for {
+		placing.mutex.Lock()
+		other, isTaken := placing.at[path]
+		if !isTaken {
+			mine := make(chan struct{})
+			placing.at[path] = mine
+			placing.mutex.Unlock()
+			return func() {
+				placing.mutex.Lock()
+				delete(placing.at, path)
+				placing.mutex.Unlock()
+				close(mine)
+			}
+		}
+		placing.mutex.Unlock()
+		<-other
+	}
+}
 
 func publishAt(target *place, volume *staged, wanted attributes) error {
-	placing.Lock()
-	defer placing.Unlock()
+	defer placed(target.path)()
 	directory, err := target.open(unix.O_PATH | unix.O_DIRECTORY)
 	if err != nil {
 		return err

@@ -9,6 +9,7 @@ import (
 	"runtime"
 	"strings"
 	"testing"
+	"time"
 
 	"golang.org/x/sys/unix"
 
@@ -479,6 +480,28 @@ func TestAtOnce(t *testing.T) {
 		}
 		box.wantsMounts("t", 0)
 	}
+}
+
+// A mount that hangs at one place holds up none at another.
+func TestHungPlace(t *testing.T) {
+	box := newBox(t)
+	box.stages("v")
+	leave := placed(box.at("hung"))
+	box.must(box.does(box.publication("v", "t")))
+	came := make(chan error, 1)
+	go func() { came <- box.does(box.publication("v", "hung")) }()
+	select {
+	case err := <-came:
+		t.Errorf("it didn't wait: %v", err)
+	case <-time.After(50 * time.Millisecond):
+	}
+	leave()
+	box.must(<-came)
+	if len(placing.at) > 0 {
+		t.Errorf("%d places are taken", len(placing.at))
+	}
+	box.must(box.unpublishes("v", "hung"))
+	box.must(box.unpublishes("v", "t"))
 }
 
 // Lines of the list of mounts, as proc(5) has them.
